@@ -60,6 +60,11 @@ TEXTS = {
     "returns-map": (STORED / "map").read_text().replace("\n", "\r\n"),
     "cut-keep": "users 0 999",
     "cut-map": (STORED / "map").read_text().rstrip("\n"),
+    # Groups whose number 100 each host pins.
+    "users-pins": "group users 105\n",
+    "staff-pins": "group staff 100\n",
+    # Names of few letters.
+    "short-pins": "user bbo 1006\nuser dab 1007\nuser ob 1008\nuser rob 1009\n",
     "near-pins": "user alcie 1006\nuser bobby 1007\ngroup user 7\ngroup usres 8\n",
     "wide-pins": f"user {'x' * 65} 1006\nuser {'x' * 63} 1007\n",
     "other-pins": "group wheel 7\n\nuser bob 1005\nuser carol\tx 1006\n",
@@ -70,6 +75,10 @@ TEXTS = {
     # Keep texts that keep nothing, since no host has their names.
     "nobody-keep": "# none\nuser carol\tx\ngroup bob\nusers 5 7\n",
     "many-keep": "".join(f"user carol{number}\n" for number in range(10, 22)),
+    "many-pins": "".join(f"user carol{number} {number}\n" for number in range(10, 22)),
+    # Keep texts by whose ranges people stay as they are, and one that lists a name besides.
+    "keep-ranges": "users 5 5000\ngroups 1000 5000\n",
+    "keep-listed": "users 5 5000\nuser svc\n",
 }
 NOTHING_COUNTED = "user-fields 0\ngroup-fields 0\n"
 NO_ACCOUNTS = "".join(f"unify: warning: host b has no {what}\n" for what in ("users", "groups"))
@@ -84,6 +93,7 @@ KEPT = "unify: warning: keep of {} is for a name that no host has\n".format
 SPACED = "".join(f"unify: warning: host a has lines in {file} that begin with white space\n" for file in ("passwd", "group"))
 SPACED += "unify: warning: host a has members in group that begin with white space\n"
 MTREE_RETURNS = "unify: warning: host a has lines in mtree that end in a carriage return\n"
+DIFFER = "unify: warning: {} keeps its numbers, which differ between hosts: {} on {} and {} on {}\n".format
 STAYS = "unify: warning: pin of {} has no effect: the name stays as it is on each host\n".format
 ALICE = "alice:x:1001:100:{}:/home/alice:/bin/sh\n".format
 MANY = range(10, 22)
@@ -100,6 +110,20 @@ DOUBTED = {
     "lists": (ALICE(""), "users:x:100:\n" + "".join(f"g{number}:x:{number}:\n" for number in MANY)),
     "listed": (ALICE(""), "users:x:100:\n" + "".join(f"g{number}:x:{number}:alice\n" for number in MANY)),
     "wide": (ALICE("") + f"{'x' * 64}:x:1003:100::/:/bin/sh\n", "users:x:100:\n"),
+    # Numbers that pin a name: of groups at 100 and at 90, and of a user whose number is another one elsewhere.
+    "ninety": (ALICE("").replace(":100:", ":90:"), "users:x:90:\n"),
+    "staff": (ALICE(""), "staff:x:100:\n"),
+    "low": (ALICE("") + "svc:x:6:100::/:/bin/sh\n", "users:x:100:\n"),
+    "high": (ALICE("") + "svc:x:1006:100::/:/bin/sh\n", "users:x:100:\n"),
+    "lower": (ALICE("") + "svc:x:7:100::/:/bin/sh\n", "users:x:100:\n"),
+    # Users and groups that have other numbers on one of these than on the other.
+    **{
+        host: (
+            ALICE("") + "".join(f"u{number}:x:{first + number}:100::/:/bin/sh\n" for number in MANY),
+            "users:x:100:\n" + "".join(f"g{number}:x:{first + number}:\n" for number in MANY),
+        )
+        for host, first in {"here": 3000, "there": 4000}.items()
+    },
     "long": (ALICE(""), "users:x:100:" + ",".join(f"u{number}" for number in MANY) + "\n"),
 }
 GETS = "unify: warning: group {} on host {} had {} and gains {}\n".format
@@ -158,8 +182,12 @@ UNOWNED = {"unowned": "./file uid=7 gid=100\n"}
 UNOWNED_TOLD = "unify: 25 UnownedUid host b uid 7 file\n"
 MAY_STAY = "unify: hint: --keep FILE leaves accounts and numbers as they are on each host\n"
 MAKE_AGAIN = "unify: hint: the inventory was cut; copy or make it again\n"
-OTHER_PIN = "unify: hint: pin another number, or see what the keep text says of this one\n"
+OTHER_PIN = "unify: hint: pin another number in the pins file, or see what the keep file says of this one\n"
+KEEP_NAME = "unify: hint: a line for this name in the keep file leaves it too as it is on each host\n"
+PIN_AS_HOST = "unify: hint: in the pins file give this name the number that it has on this host, or take its line out\n"
+PIN_APART = "unify: hint: in the pins file give one of these names another number, or take its line out\n"
 WIDER_RANGE = "unify: hint: widen this range of numbers in the hosts' login.defs\n"
+NO_FILE = "unify: file {}: the path of a directory, and no file's; choose another mark with --mark\n".format
 MARKS_OWN = "unify: file {}: a file of this name is written and removed with the mark; choose another mark with --mark\n".format
 # A mark and a plan that has one of its names, as it is written or by another path.
 OWN_NAMES = [
@@ -212,7 +240,9 @@ LATE = (
     "unify: new fresh user alice 2001 group users 100\n"
     "unify: unnamed late uid 1002 gid 50\n"
 )
+NO_FILES = "unify: warning: inventory {} has no files\n".format
 NEW_ONE = "unify: new new\\040one user bob 2002 group staff 51\n"
+OTHER_ROOT = "unify: hint: most paths of BEFORE are not in AFTER; both have to be of the same ROOT, which the first line of an inventory names\n"
 A_LINK = "a symbolic link to a directory; it is followed where a slash stands behind it"
 # Words; the exit status; what is on standard output; and what on standard error. What the crate clap words is a tuple of what
 # it has to hold.
@@ -344,20 +374,21 @@ TABLE = [
         VERIFY("many-left", "none-left"),
         1,
         FOUND(0, 12, 0, 0, 0, 0),
-        "".join(f"unify: missing f{number}\n" for number in range(10)) + "unify: more missing: 2\n",
+        NO_FILES("none-left") + "".join(f"unify: missing f{number}\n" for number in range(10)) + "unify: more missing: 2\n",
     ),
     (
         VERIFY("--all many-left", "none-left"),
         1,
         FOUND(0, 12, 0, 0, 0, 0),
-        "".join(f"unify: missing f{number}\n" for number in range(12)),
+        NO_FILES("none-left") + "".join(f"unify: missing f{number}\n" for number in range(12)),
     ),
+    (VERIFY("none-left", "none-left"), 0, FOUND(0, 0, 0, 0, 0, 0), 2 * NO_FILES("none-left")),
     # New files, of which one has numbers that names have left.
     (
         VERIFY("none-left", "left-over"),
         1,
         FOUND(0, 0, 0, 2, 1, 1),
-        "unify: new fresh user alice 2001 group users 100\n"
+        NO_FILES("none-left") + "unify: new fresh user alice 2001 group users 100\n"
         "unify: new late user - 1002 group - 50\n"
         "unify: unnamed late uid 1002 gid 50\n"
         "unify: left late user bob 1002 group staff 50\n",
@@ -367,8 +398,8 @@ TABLE = [
     (VERIFY_OWN("tree-before", "tree"), 0, FOUND(3, 0, 0, 0, 0, 0), ""),
     (VERIFY_OWN("tree-before", "./tree//"), 0, FOUND(3, 0, 0, 0, 0, 0), ""),
     (VERIFY_OWN("linked-before", "linked"), 0, FOUND(2, 0, 0, 0, 0, 0), ""),
-    (VERIFY_OWN("none-left", "tree"), 0, FOUND(0, 0, 0, 3, 0, 0), TREE_NEW("me")),
-    (VERIFY_OTHER("none-left", "tree"), 1, FOUND(0, 0, 0, 3, 0, 3), TREE_NEW("other") + TREE_LEFT),
+    (VERIFY_OWN("none-left", "tree"), 0, FOUND(0, 0, 0, 3, 0, 0), NO_FILES("none-left") + TREE_NEW("me")),
+    (VERIFY_OTHER("none-left", "tree"), 1, FOUND(0, 0, 0, 3, 0, 3), NO_FILES("none-left") + TREE_NEW("other") + TREE_LEFT),
     (
         VERIFY_OTHER("tree-before", "tree"),
         1,
@@ -432,6 +463,16 @@ TABLE = [
     ),
     ("merge -q --pins other-pins out a b", 0, COUNTED, ""),
     (
+        "merge --pins short-pins out a b",
+        0,
+        COUNTED,
+        NOBODY("user bbo", "; there is bob")
+        + NOBODY("user dab", "")
+        + NOBODY("user ob", "")
+        + NOBODY("user rob", "; there is bob")
+        + TAKEN,
+    ),
+    (
         "merge --pins near-pins out a b=a",
         0,
         NOTHING_COUNTED,
@@ -458,6 +499,32 @@ TABLE = [
     ),
     ("merge -q --pins kept-pins --keep keep-names out a b", 0, "user-fields 3\ngroup-fields 0\n", ""),
     ("merge --pins pins --keep keep-all out a b", 0, NOTHING_COUNTED, STAYS("user bob")),
+    (
+        "merge --pins many-pins out a b",
+        0,
+        COUNTED,
+        "".join(NOBODY(f"user carol{number}", "") for number in MANY[:10])
+        + "unify: warning: more pins of names that no host has: 2\n"
+        + TAKEN,
+    ),
+    # Names that stay as they are by ranges, with two numbers. Of system accounts and of names that are listed nothing is told.
+    ("merge --keep keep-ranges out a=low b=high", 0, NOTHING_COUNTED, DIFFER("user svc", 6, "a", 1006, "b")),
+    ("merge --keep keep-ranges out a=low b=lower c=high", 0, NOTHING_COUNTED, DIFFER("user svc", 6, "a", 1006, "c")),
+    ("merge -q --keep keep-ranges out a=low b=high", 0, NOTHING_COUNTED, ""),
+    ("merge --keep keep-listed out a=low b=high", 0, NOTHING_COUNTED, ""),
+    ("merge --keep keep-ranges out a=low b=lower", 0, NOTHING_COUNTED, ""),
+    ("merge --keep keep-ranges out a=low b=early", 0, NOTHING_COUNTED, DIFFER("user svc", 6, "a", 7, "b")),
+    ("merge --keep keep-ranges out a=high b=high", 0, NOTHING_COUNTED, ""),
+    (
+        "merge --keep keep-ranges out a=here b=there",
+        0,
+        NOTHING_COUNTED,
+        "".join(
+            "".join(DIFFER(f"{kind} {kind[0]}{number}", 3000 + number, "a", 4000 + number, "b") for number in MANY[:10])
+            + f"unify: warning: more {kind}s whose kept numbers differ: 2\n"
+            for kind in ("user", "group")
+        ),
+    ),
     ("merge --keep nobody-keep out a b", 0, COUNTED, KEPT("user carol\\011x") + KEPT("group bob") + TAKEN),
     ("merge -q --keep nobody-keep out a b", 0, COUNTED, ""),
     (
@@ -547,13 +614,14 @@ TABLE = [
     ("apply --check -q --host b lone-plan .", 1, SEEN(1, 0, 0, 0, 0, 1), "unify: file two: a hard link to the file is not in the plan\n"),
     ("apply --check -q --host b torn-plan .", 1, SEEN(2, 0, 0, 0, 0, 2), "unify: file names: the plan gives another hard link of the file another owner\n"),
     ("apply --check -q --host b odd-mark .", 1, SEEN(1, 0, 0, 0, 0, 0), "unify: file odd-mark.done: not the mark of a plan\n"),
-    ("apply --check -q --host b --mark linked deep-plan .", 1, SEEN(1, 0, 0, 0, 0, 0), "unify: file linked: not the mark of a plan\n"),
     ("apply --check -q --host b cut-modes .", 1, SEEN(1, 0, 0, 0, 0, 0), "unify: file cut-modes.done.modes: truncated, or not the modes of a plan\n"),
     ("apply --check -q --host b other-modes .", 1, SEEN(1, 0, 0, 0, 0, 0), f"unify: file other-modes.done.modes: {OTHER_PLAN}"),
     ("apply --check -q --host b --reverse own-modes .", 1, SEEN(1, 1, 0, 0, 0, 0), f"unify: file own-modes.done.modes: {OTHER_PLAN}"),
     # Of several, that which a run would tell; but a file that cannot be looked at is not counted, and told first.
     ("apply --check -q --mark moved moved.new .", 2, SEEN(1, 1, 0, 0, 0, 0), MARKS_OWN("moved.new")),
     ("apply --check -q --mark moved to-new .", 2, SEEN(1, 1, 0, 0, 0, 0), MARKS_OWN("to-new")),
+    ("apply --check -q --mark linked deep-plan .", 2, SEEN(1, 0, 0, 0, 0, 0), NO_FILE("linked")),
+    ("apply --check -q --mark linked/ deep-plan .", 2, SEEN(1, 0, 0, 0, 0, 0), NO_FILE("linked/")),
     ("apply --check -q --mark none/mark --host a odd-mark .", 3, SEEN(1, 0, 0, 0, 0, 0), "unify: file none: No such file or directory\n"),
     ("apply --check -q --host b --mark odd-mark.done far-plan .", 1, SEEN(0, 0, 0, 1, 0, 0), "unify: file odd-mark.done: not the mark of a plan\n"),
     ("apply --check -q rooted-plan .", 1, "", "unify: file /map: no inventory has such a path, or it is too long\n"),
@@ -586,7 +654,9 @@ TABLE = [
     ("apply --check -q --mark map/mark deep-plan .", 3, SEEN(1, 0, 0, 0, 0, 0), "unify: file map: Not a directory\n"),
     ("apply --check plan none", 2, "", "unify: root none: No such file or directory\n"),
     ("apply --check plan to-itself", 2, "", "unify: root to-itself: Too many levels of symbolic links\n"),
-    # A plan that a run would remove, as its mark has that name: nothing is read.
+    # A mark that can be no file, and a plan that a run would remove, as its mark has that name: nothing is read.
+    *((f"apply --mark {mark} none b", 2, "", NO_FILE(mark)) for mark in ("linked", "linked/", "none/", "map/", ".")),
+    (["apply", "--mark", "", "plan", "b"], 2, "", NO_FILE("-")),
     *((f"apply {words} b", 2, "", MARKS_OWN(words.split()[-1])) for words in OWN_NAMES),
     ("apply --check plan plan", 2, "", "unify: root plan: Not a directory\n"),
     # The order in which files are read: all of them but inventories before anything is judged.
@@ -634,6 +704,13 @@ LOOKED_AT = [
     ("count map a", 1, "unify: 40 BadMap line 0\n"),
     ("count map a b=cut", 1, WAS_CUT(4) + MAKE_AGAIN),
     ("merge --keep low-keep --pins low-pins out a b", 1, "unify: 47 PinReserved user 6 bob range 5 7\n" + OTHER_PIN),
+    ("merge --keep low-keep out a=low b=high", 1, "unify: 47 PinReserved user 6 svc range 5 7\n" + KEEP_NAME),
+    ("merge --pins users-pins out a b", 1, "unify: 22 PinDisagrees group users - a\n" + PIN_AS_HOST),
+    ("check --pins users-pins good a b", 1, "unify: 22 PinDisagrees group users - a\n" + PIN_AS_HOST),
+    ("merge out a=web b=ninety", 1, "unify: 22 PinDisagrees group users a b\n" + MAY_STAY),
+    ("merge --pins staff-pins out a b", 1, "unify: 23 PinClash group 100 users staff\n" + PIN_APART),
+    ("merge -q --pins staff-pins out a b", 1, "unify: 23 PinClash group 100 users staff\n"),
+    ("merge out a b=staff", 1, "unify: 23 PinClash group 100 users staff\n" + MAY_STAY),
     ("merge out a b=narrow", 1, "unify: 24 PoolTooSmall user regular 2 1\n" + WIDER_RANGE),
     # How far it is stands on one line, which is cleared before anything else is told.
     (
@@ -642,7 +719,16 @@ LOOKED_AT = [
         ("\r\x1b[Kunify: looked at 2 of 2\r\x1b[K" + SEEN(1, 1, 0, 0, 0, 0) + "unify: warning: ", "\r\x1b[Kunify: looked at 2 of 2\r\x1b[K"),
     ),
     ("apply --check -q --host b --begun own-plan .", 0, SEEN(1, 1, 0, 0, 0, 0)),
-    ("apply --check -q --host b far-plan .", 1, SEEN(0, 0, 0, 1, 0, 0) + "unify: 38 Foreign map\n" + OWNED_BY_OTHER),
+    ("apply --check --host b far-plan .", 1, ("unify: 38 Foreign map\n" + OWNED_BY_OTHER,)),
+    ("apply --check -q --host b far-plan .", 1, SEEN(0, 0, 0, 1, 0, 0) + "unify: 38 Foreign map\n"),
+    # Most files are missing: under another ROOT, and where there are none.
+    (VERIFY_OWN("tree-before", "linked"), 1, (FOUND(0, 3, 0, 2, 0, 0) + OTHER_ROOT,)),
+    (VERIFY_OWN("tree-once", "tree"), 1, (FOUND(1, 2, 0, 2, 0, 0) + OTHER_ROOT,)),
+    (
+        VERIFY("known-late", "none-left"),
+        1,
+        NO_FILES("none-left") + "unify: missing late\n" + FOUND(0, 1, 0, 0, 0, 0),
+    ),
 ]
 # Words that have an answer for standard output, which is full.
 UNWRITTEN = [
@@ -699,6 +785,8 @@ def lay_out(room):
         (room / host / "mtree").write_text(mtree)
     shutil.copytree(STORED / "b", room / "narrow")
     (room / "narrow/login.defs").write_text("UID_MIN 1001\nUID_MAX 1001\n")
+    shutil.copytree(room / "lower", room / "early")
+    (room / "early/login.defs").write_text("UID_MIN 7\n")
     shutil.copytree(room / "web", room / "again")
     (room / "again/mtree").write_text(AGAIN)
     shutil.copytree(room / "web", room / "folded")
