@@ -17,7 +17,7 @@ use Rattle.mtree_inv.specs.Views.{has_separator, is_simple_part, is_simple, HasP
 use Rattle.mtree_inv.proofs.PartLemmas.{kept-joined, with_part}
 use Rattle.mtree_inv.proofs.PathLemmas.{joined_onto-slashed, join_with_byte-slashed}
 
-or_parts : (a b : Bool) → (a || b) ≡ false → (a ≡ false) × (b ≡ false)
+pub or_parts : (a b : Bool) → (a || b) ≡ false → (a ≡ false) × (b ≡ false)
 or_parts true b h = absurd (true≢false h)
 or_parts false b h = (refl, h)
 

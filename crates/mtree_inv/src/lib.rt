@@ -40,13 +40,17 @@ mod hashed_cut;
 mod held_cuts;
 mod inventory;
 mod keywords;
+mod known_keywords;
+mod known_parent;
 mod laws;
+mod named_path;
 mod open_line;
 mod parts;
 mod past;
 mod place;
 mod places;
 mod reader;
+mod spare_paths;
 mod table;
 mod walk;
 

@@ -286,4 +286,12 @@ impl Parts {
     {
         self.walk.take()
     }
+
+    /// Keeps the memory of a path that was handed out, for one to come.
+    pub(crate) fn reuse(&mut self, path: Vec<u8>)
+        ensures reading { reading_of self.new ≡ reading_of self.old }
+        ensures files { self.new.walk.files ≡ self.old.walk.files }
+    {
+        self.walk.reuse(path);
+    }
 }

@@ -18,7 +18,8 @@ use std::marker::Model;
 /// with the text that came, whoever named the files. A path that stands in the search tree of which
 /// `feed` tells takes up to some 350 bytes more, as its key has these 256 bytes once more; whoever
 /// names the files may choose many such paths. Only a file that waits to be taken has its whole
-/// path.
+/// path. Of the entry before it keeps the keywords and what stands in its path up to the last
+/// slash, and of files that were given back the memory of 64 paths.
 ///
 /// Of texts that are to come twice it can also keep a hash of each path, 8 bytes, by which their
 /// second reading is faster (`keep_hashes`). What it answers never depends on these.
@@ -75,9 +76,10 @@ impl Reader {
         }
     }
 
-    /// Is as a new reader then, for the next text, but keeps memory: that of its table of paths,
-    /// and that of the list of files that wait to be taken. So a reader of many texts asks for it
-    /// once, and neither need grow again for each. It gives back what many paths begin with and
+    /// Is as a new reader then, for the next text, but keeps memory: that of its table of paths, of
+    /// the list of files that wait to be taken, and of paths that were given back. So a reader of
+    /// many texts asks for it once, and none need grow again for each. What it keeps of the entry
+    /// before changes no answer either. It gives back what many paths begin with and
     /// what stood in search trees, and of a text with more than 1,048,576 files the whole table of
     /// paths.
     ///
@@ -276,5 +278,14 @@ impl Reader {
         ensures stands { (text : List ℕ) → StandsFor self.old text → StandsFor self.new text }
     {
         self.parts.take()
+    }
+
+    /// Takes back a file that is no longer needed, so that the memory of its path serves a path to
+    /// come. Changes nothing of what the reader answers. Takes constant time, and no memory but for
+    /// a list of 64 paths, with room for at most 4096 bytes each, that are kept so.
+    pub fn reuse(&mut self, entry: Entry)
+        ensures { self.new ≡ self.old }
+    {
+        self.parts.reuse(entry.path.into_vec());
     }
 }

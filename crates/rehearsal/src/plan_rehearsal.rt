@@ -59,6 +59,7 @@ fn note_waiting(from: &mut Reader, tree: &mut PlanTree<'_, '_>)
 {
     while let Some(file) = from.next_entry() {
         tree.note(&file);
+        from.reuse(file);
     }
 }
 

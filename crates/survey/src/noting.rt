@@ -69,6 +69,7 @@ pub fn note_waiting(
 {
     while let Some(file) = from.next_entry() {
         note_file(noted, host, &file)?;
+        from.reuse(file);
     }
     Ok(())
 }

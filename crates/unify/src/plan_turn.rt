@@ -228,6 +228,7 @@ fn plan_waiting(
             &file,
             plan,
         )?;
+        turn.reader.reuse(file);
     }
     Ok(())
 }

@@ -57,9 +57,9 @@ pub fn begin_next(reader: &mut Reader, is_left: bool)
     }
 }
 
-/// The fault of a file that the host does not allow, or want of memory for its path. Two look-ups
-/// by hash, and a bisection for a number that has no account.
-pub fn tell_owner<'a>(alloc: Global, host: &Host<'a>, unowned: &Option<Entry>) -> Fault<'a>
+// The fault of a file that the host does not allow, or want of memory for its path. Two look-ups
+// by hash, and a bisection for a number that has no account.
+fn tell_owner<'a>(alloc: Global, host: &Host<'a>, unowned: &Option<Entry>) -> Fault<'a>
     ensures { IsToldAs (owner_told host.now unowned.now) result }
 {
     let Some(entry) = unowned else {
@@ -97,6 +97,7 @@ fn count_waiting(host: &Host<'_>, from: &mut Reader, rows: &mut RowFiles) -> Opt
             drain(from);
             return Some(entry);
         }
+        from.reuse(entry);
     }
     None
 }

@@ -1,6 +1,7 @@
 use Rattle.std.proofs.Common.{◌≡◌, true, not, vec_len, sym, ap, ◌∙◌, subst}
 use Rattle.std.proofs.lemmas.Bool.{eqb-true}
-use Rattle.std.specs.Prelude.{IfOk}
+use Rattle.std.specs.Prelude.{IfOk, ◌==◌}
+use Rattle.mtree_inv.proofs.ParentLemmas.{front-none}
 use Rattle.mtree_inv.proofs.UnescapedLemmas.{full-plain, pieces-begun, pieces-same, nul-bad, names-begun, name-alone, name-last, last-piece-bad, last-piece-path, simple-bad, simple-written}
 use Rattle.mtree_inv.proofs.place.push_unescaped.Goals as goal
 
@@ -26,24 +27,34 @@ returns-then-not-is_full-clause-path c =
     (pieces-begun c.args.path.now.items c.args.word.now c.requires.plain))
     c.push_name.ensures.path
 
-pub returns-then-is_simple-clause-bad : goal.returns-then-is_simple-clause-bad
-returns-then-is_simple-clause-bad c =
+pub keep-requires : goal.keep-requires
+keep-requires c =
+    let plain = sym c.without_dot-rest.ensures.backslash ∙ c.requires.plain in
+    let no_nul = sym c.without_dot-rest.ensures.nul ∙ (sym c.contains.ensures.value ∙ c.if-contains.false) in
+    record {
+      simple = c.in-Some.ensures.parent;
+      nul = front-none (λ b. b == 0) c.in-Some.parent_len c.without_dot-rest.result.now no_nul;
+      backslash = front-none (λ b. b == 92) c.in-Some.parent_len c.without_dot-rest.result.now plain;
+    }
+
+pub returns-in-Some-clause-bad : goal.returns-in-Some-clause-bad
+returns-in-Some-clause-bad c =
     let word = c.args.word.now in
-    let same = c.without_dot-rest.ensures in
+    let same = c.without_dot-rest.ensures.parts in
     let read = pieces-same c.args.path.now.items word c.without_dot-rest.result.now _ _ same (pieces-begun c.args.path.now.items word c.requires.plain) in
     let names = same.separators ∙ names-begun word (sym c.contains.ensures.value ∙ c.if-contains.false) in
-    sym (ap not (sym read.bad_is ∙ simple-bad c.without_dot-rest.result.now (sym c.is_simple.ensures ∙ c.if-is_simple.true) names))
+    sym (ap not (sym read.bad_is ∙ simple-bad c.without_dot-rest.result.now (sym c.in-Some.ensures.simple) names))
 
-pub returns-then-is_simple-clause-path : goal.returns-then-is_simple-clause-path
-returns-then-is_simple-clause-path c = λ _.
+pub returns-in-Some-clause-path : goal.returns-in-Some-clause-path
+returns-in-Some-clause-path c = λ _.
     simple-written c.args.path.now.items c.without_dot-rest.result.now c.extend_from_slice.new.self.items _ _
-    (sym c.args.path.now.ok.0 ∙ eqb-true (vec_len c.args.path.now) 0 (sym c.is_empty.ensures ∙ c.if-is_empty.true)) (sym c.is_simple.ensures ∙ c.if-is_simple.true)
-    (pieces-same c.args.path.now.items c.args.word.now c.without_dot-rest.result.now _ _ c.without_dot-rest.ensures (pieces-begun c.args.path.now.items c.args.word.now c.requires.plain))
+    (sym c.args.path.now.ok.0 ∙ eqb-true (vec_len c.args.path.now) 0 (sym c.is_empty.ensures ∙ c.if-is_empty.true)) (sym c.in-Some.ensures.simple)
+    (pieces-same c.args.path.now.items c.args.word.now c.without_dot-rest.result.now _ _ c.without_dot-rest.ensures.parts (pieces-begun c.args.path.now.items c.args.word.now c.requires.plain))
     c.in_ok-extend_from_slice.ensures.items
 
 pub loop-part-init : goal.loop-part-init
 loop-part-init c =
-    let same = c.without_dot-rest.ensures in record {
+    let same = c.without_dot-rest.ensures.parts in record {
       read = pieces-same c.args.path.now.items c.args.word.now c.without_dot-rest.result.now _ _ same (pieces-begun c.args.path.now.items c.args.word.now c.requires.plain);
       names = same.separators ∙ names-begun c.args.word.now (sym c.contains.ensures.value ∙ c.if-contains.false);
     }

@@ -9,7 +9,7 @@ loop-file-preserved c =
     let file = c.in-Some.file in
     let left = c.next_entry.new.self.waiting in
     let tree = c.loop-file.tree in
-    record {
+    rw c.reuse.ensures (record {
       stays = c.in-Some.ensures.stays ∙ ap (λ (r : ReaderValue). record r { waiting = left }) inv.stays;
       stands = λ text s. c.in-Some.ensures.stands text (inv.stands text s);
       done = inv.done ++ file ∷ [];
@@ -19,4 +19,4 @@ loop-file-preserved c =
           let same = ap (λ (t : FilesOfPlan). t.paths) before in
           let after = c.note.ensures.found (files ++ inv.done) (subst (λ ps. tree ≡ found_among (files ++ inv.done) ps) (sym same) before) in
           subst (λ ps. c.note.new.self ≡ found_among ((files ++ inv.done) ++ file ∷ []) ps) same after ∙ ap (λ fs. found_among fs paths) (append_assoc files inv.done (file ∷ [])));
-    }
+    })

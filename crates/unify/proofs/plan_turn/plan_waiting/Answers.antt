@@ -35,7 +35,7 @@ loop-file-preserved c =
     let merged = c.args.whose.now.merged.now in
     let index = c.args.whose.now.index in
     let start = c.args.plan.now.items in
-    record {
+    rw c.reuse.ensures (record {
       stays = next_stays c.args.turn.now c.loop-file.turn c.next_entry.new.self c.plan_file.new.rows _ inv.stays c.in-Some.ensures.stays;
       stands = λ text s. c.in-Some.ensures.stands text (inv.stands text s);
       done = inv.done ++ file ∷ [];
@@ -50,7 +50,7 @@ loop-file-preserved c =
           ∙ ap (λ t. t ++ lines (plan_of site merged.mappings index (file ∷ []))) inv.planned
           ∙ append_assoc start (lines (plan_of site merged.mappings index inv.done)) (lines (plan_of site merged.mappings index (file ∷ [])))
           ∙ ap (λ t. start ++ t) (sym (lines_both site merged.mappings index inv.done (file ∷ [])));
-    }
+    })
 
 pub returns-in_err-plan_file-clause-changed : goal.returns-in_err-plan_file-clause-changed
 returns-in_err-plan_file-clause-changed c = λ changed.

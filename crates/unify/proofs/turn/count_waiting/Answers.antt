@@ -20,7 +20,7 @@ loop-entry-preserved c =
     let owned = is_owned_none (owner_fault host [] entry) c.count_file.result c.count_file.ensures.owned c.if-not-count_file.false in
     let more = c.count_file.ensures.counted c.if-not-count_file.false in
     let come = ap length c.in-Some.ensures.next in
-    record {
+    rw c.reuse.ensures (record {
       stays = c.in-Some.ensures.stays ∙ ap (λ (r : ReaderValue). record r { waiting = left }) inv.stays;
       stands = λ text s. c.in-Some.ensures.stands text (inv.stands text s);
       done = inv.done ++ entry ∷ [];
@@ -28,7 +28,7 @@ loop-entry-preserved c =
       counted = λ files s. subst (AreCounted host new None) (append_assoc files inv.done (entry ∷ [])) (counted_one host c.loop-entry.rows new (files ++ inv.done) entry (inv.counted files s) owned (more (files ++ inv.done)));
       before = c.count_file.ensures.before;
       room = (inv.room.0 ++ entry ∷ [], more inv.room.0 inv.room.1, omega (arith, inv.room.2, come, length-append inv.room.0 (entry ∷ [])));
-    }
+    })
 
 pub returns-then-not-count_file-clause-counted : goal.returns-then-not-count_file-clause-counted
 returns-then-not-count_file-clause-counted c = λ files s.
