@@ -1,6 +1,6 @@
 -- Which files a host has, and which lines are told of its inventory.
-use Rattle.std.proofs.Common.{◌≡◌, ℕ, Bool, true, false, cond, List, [], None, Some, Result, Ok, Err, sym, ap, ap₂, ◌∙◌, subst, inl, inr}
-use Rattle.std.specs.Prelude.{◌⊎◌}
+use Rattle.std.proofs.Common.{◌≡◌, ℕ, Bool, true, false, cond, List, [], None, Some, Result, Ok, Err, refl, sym, ap, ap₂, ◌∙◌, subst, inl, inr}
+use Rattle.std.specs.Prelude.{◌⊎◌, ◌↔◌}
 use Rattle.idtext.specs.First.{◌>>=◌, first_fault, unless}
 use Rattle.idtext.specs.declared.faults.TextCode.{TextCode}
 use Rattle.idtext.specs.declared.faults.TextFault.{TextFault}
@@ -15,8 +15,8 @@ use Rattle.unify_texts.specs.declared.fault.Fault.{Fault}
 use Rattle.unify_texts.specs.declared.fault.Fault.TheVariants.{Line, UnownedUid, UnownedGid}
 use Rattle.site_tables.proofs.FaultLaws.{all_allowed, bind_err, err_same, file_err, never_err, none_judged}
 use Rattle.unify_texts.proofs.FirstFaults.{FirstFault, all_pass, first_fails, unless_err}
-use Rattle.site_tables.proofs.Owners.{files_read}
-use Rattle.site_tables.specs.FileLaws.{AreItsFiles, FilesAreOfInventories, InventoryLinesAreTold, IsOfInventory, TellsItsLines}
+use Rattle.site_tables.proofs.Owners.{file_ok, files_read}
+use Rattle.site_tables.specs.FileLaws.{AreItsFiles, FilesAreOfInventories, GivesWhatIsRead, InventoryLinesAreTold, IsOfInventory, TellsItsLines}
 use Rattle.site_tables.specs.Hosts.{files_of, owner_fault}
 use Rattle.unify_texts.specs.Told.{in_file}
 use Rattle.site_tables.specs.declared.host.Loaded.{Loaded}
@@ -48,6 +48,12 @@ module _ {A : Type 0} (host : Host) where
     where
       back : name ≡ host.name → which ≡ file.Mtree → r ≡ Err (record { code = code; line = line }) → in_file host.name file.Mtree r ≡ Err (Line name which code line)
       back is_host is_file is = ap (in_file host.name file.Mtree) is ∙ ap₂ (λ h n. Err (Line h n code line)) (sym is_host) (sym is_file)
+
+  in_file_gives : (r : Result A TextFault) (x : A) → (in_file host.name file.Mtree r ≡ Ok x) ↔ (r ≡ Ok x)
+  in_file_gives r x = (file_ok host.name file.Mtree r x, ap (in_file host.name file.Mtree))
+
+  given_as_read : (r : Result A TextFault) → GivesWhatIsRead host r (in_file host.name file.Mtree r)
+  given_as_read r = record { given = in_file_gives r; lines = in_file_tells r }
 
 owner_no_line : {Q : Type 0} (user group : Bool) (h : List ℕ) (u v : ℕ) (p q name : List ℕ) (which : FileName) (code : TextCode) (line : ℕ) → cond user (cond group None (Some (UnownedGid h v q))) (Some (UnownedUid h u p)) ≡ Some (Line name which code line) → Q
 owner_no_line true true h u v p q name which code line e = absurd (cc)
@@ -117,7 +123,8 @@ inventory_lines_are_told host text =
         λ is. line_back loaded (Line name which code line) ((in_file_tells host (inventory 16777216 text) name which code line).1 is),
       );
       nothing_else = λ f e. kind_told loaded f (step loaded f e);
-      without_owners = in_file_tells host (inventory 16777216 text);
-      so_far = in_file_tells host (inventory_of_lines 16777216 (whole_lines text));
+      without_owners = given_as_read host (inventory 16777216 text);
+      so_far = given_as_read host (inventory_of_lines 16777216 (whole_lines text));
       by_the_reader = λ f e. ap (in_file host.name file.Mtree) e;
+      for_memory = refl;
     }

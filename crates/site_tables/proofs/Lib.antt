@@ -18,5 +18,8 @@ pub mod TextLaws
 pub mod KeptNames
 pub mod SurveyLaws
 pub mod SurveyFaults
+pub mod SurveyOrder
 pub mod PrimaryFaults
 pub mod SiteLaws
+pub mod FirstOfEach
+pub mod CountLaws

@@ -100,7 +100,7 @@ gives-from : {A B F : Type 0} (f : A → Result B F) (x z : A) (xs : List A) (y 
 gives-from f x z xs y ys zero gave here later = record { given = y; there = refl; gives = ap f (sym (same_Some z x here)) ∙ gave }
 gives-from f x z xs y ys (suc j) gave here later = let it = later j here in record { given = it.given; there = it.there; gives = it.gives }
 
-each-gives : {A B F : Type 0} (f : A → Result B F) (xs : List A) (ys : List B) → each f xs ≡ Ok ys → (k : ℕ) (x : A) → slice_get xs k ≡ Some x → GivesThere f x ys k
+pub each-gives : {A B F : Type 0} (f : A → Result B F) (xs : List A) (ys : List B) → each f xs ≡ Ok ys → (k : ℕ) (x : A) → slice_get xs k ≡ Some x → GivesThere f x ys k
 unfolding each
 each-gives f [] ys h k x here = absurd (cc)
 each-gives f (z ∷ xs) ys h k x here =
@@ -109,20 +109,20 @@ each-gives f (z ∷ xs) ys h k x here =
     subst (λ all. GivesThere f x all k) (ok_same (first.0 ∷ rest.0) ys rest.2) (gives-from f x z xs first.0 rest.0 k first.1 here (λ j at. each-gives f xs rest.0 rest.1 j x at))
 
 -- a host that stands with a text, and both apart
-apart : (hosts : List Host) (mtrees : List (List ℕ)) (k : ℕ) (l : Loaded) → slice_get (loaded_from hosts mtrees) k ≡ Some l → (slice_get hosts k ≡ Some l.host) × (slice_get mtrees k ≡ Some l.mtree)
+pub apart : (hosts : List Host) (mtrees : List (List ℕ)) (k : ℕ) (l : Loaded) → slice_get (loaded_from hosts mtrees) k ≡ Some l → (slice_get hosts k ≡ Some l.host) × (slice_get mtrees k ≡ Some l.mtree)
 apart [] mtrees k l at = absurd (cc)
 apart (host ∷ hosts) [] k l at = absurd (cc)
 apart (host ∷ hosts) (mtree ∷ mtrees) zero l at = (ap (option_map (λ (x : Loaded). x.host)) at, ap (option_map (λ (x : Loaded). x.mtree)) at)
 apart (host ∷ hosts) (mtree ∷ mtrees) (suc k) l at = apart hosts mtrees k l at
 
-paired : (hosts : List Host) (mtrees : List (List ℕ)) (k : ℕ) (host : Host) (mtree : List ℕ) → slice_get hosts k ≡ Some host → slice_get mtrees k ≡ Some mtree → slice_get (loaded_from hosts mtrees) k ≡ Some (record { host = host; mtree = mtree })
+pub paired : (hosts : List Host) (mtrees : List (List ℕ)) (k : ℕ) (host : Host) (mtree : List ℕ) → slice_get hosts k ≡ Some host → slice_get mtrees k ≡ Some mtree → slice_get (loaded_from hosts mtrees) k ≡ Some (record { host = host; mtree = mtree })
 paired [] mtrees k host mtree here there = absurd (cc)
 paired (h ∷ hosts) [] k host mtree here there = absurd (cc)
 paired (h ∷ hosts) (m ∷ mtrees) zero host mtree here there = λ i. Some (record { host = same_Some h host here i; mtree = same_Some m mtree there i })
 paired (h ∷ hosts) (m ∷ mtrees) (suc k) host mtree here there = paired hosts mtrees k host mtree here there
 
 -- a host with its files is listed where its inventory is read as these
-listed-read : (l : Loaded) (host : Host) (files : List Entry) → listed_of l ≡ Ok (host, files) → (l.host ≡ host) × (inventory 16777216 l.mtree ≡ Ok files)
+pub listed-read : (l : Loaded) (host : Host) (files : List Entry) → listed_of l ≡ Ok (host, files) → (l.host ≡ host) × (inventory 16777216 l.mtree ≡ Ok files)
 listed-read l host files h =
     let reading = bind_ok (inventory_of l.host l.mtree) (λ fs. Ok (l.host, fs)) (host, files) h in
     let same : (l.host, reading.0) ≡ (host, files) = ok_same (l.host, reading.0) (host, files) reading.2 in

@@ -12,7 +12,7 @@ use Rattle.hosts_join.specs.declared.host.Host.{Host}
 use Rattle.unify_texts.specs.declared.bundle_line.FileName.{FileName}
 use Rattle.unify_texts.specs.declared.bundle_line.FileName.TheVariants as file
 use Rattle.unify_texts.specs.declared.fault.Fault.{Fault}
-use Rattle.unify_texts.specs.declared.fault.Fault.TheVariants.{Line, UnownedUid, UnownedGid}
+use Rattle.unify_texts.specs.declared.fault.Fault.TheVariants.{Line, Memory, UnownedUid, UnownedGid}
 use Rattle.site_tables.specs.declared.host.Loaded.{Loaded}
 use Rattle.site_tables.specs.FaultLaws.{MayHaveGid, MayHaveUid}
 use Rattle.unify_texts.specs.Limits.{most_files}
@@ -47,18 +47,27 @@ IsOfInventory (UnownedUid host uid path) = Unit {0}
 IsOfInventory (UnownedGid host gid path) = Unit {0}
 IsOfInventory _ = ⊥
 
--- so it is of a whole inventory, with its owners or without, and of the lines that have come; and a
--- fault that the reader tells is told as the definition tells it
+-- What the reader gives is given, whoever owns the files; and where it refuses the text, its line
+-- is told. Nothing else is told.
+pub record GivesWhatIsRead {A : Type 0} (host : Host) (read : Result A TextFault)
+    (told : Result A Fault) : Type 0 where
+  pub given : (x : A) → (told ≡ Ok x) ↔ (read ≡ Ok x)
+  pub lines : TellsItsLines host read told
+
+-- So it is of an inventory as a survey reads it, without its owners, and of the lines that have
+-- come so far. With its owners, an inventory tells such a line, or an unowned file. A fault that
+-- the reader tells is told as the definition tells it, and want of memory as itself.
 pub record InventoriesTellTheirLines (host : Host) (text : List ℕ) : Type 0 where
   pub with_owners : TellsItsLines host (inventory most_files text)
       (files_of (record { host = host; mtree = text }))
   pub nothing_else : (f : Fault) → files_of (record { host = host; mtree = text }) ≡ Err f
       → IsOfInventory f
-  pub without_owners : TellsItsLines host (inventory most_files text) (inventory_of host text)
-  pub so_far : TellsItsLines host (inventory_of_lines most_files (whole_lines text))
+  pub without_owners : GivesWhatIsRead host (inventory most_files text) (inventory_of host text)
+  pub so_far : GivesWhatIsRead host (inventory_of_lines most_files (whole_lines text))
       (lines_of host text)
   pub by_the_reader : (f : TextFault) → inventory most_files text ≡ Err f
       → inventory_of host text ≡ Err (read_told host (read.Fault f))
+  pub for_memory : read_told host read.Memory ≡ Memory
 
 abbrev pub InventoryLinesAreTold : Type 0
 InventoryLinesAreTold = (host : Host) (text : List ℕ) → InventoriesTellTheirLines host text

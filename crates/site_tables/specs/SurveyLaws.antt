@@ -1,8 +1,8 @@
--- Which numbers a survey finds, in words of the texts, and which fault is told where it finds none:
--- the first.
+-- Which numbers a survey finds, in words of the texts, and in which order; and which fault is told
+-- where it finds none: the first.
 -- Sources: mtree(5), passwd(5) and group(5); which numbers stay is this project's own rule.
 use Rattle.std.specs.Prelude.{◌≡◌, ◌⊎◌, ◌↔◌, ℕ, true, false, List, Some, Ok, Err, Any, map}
-use Rattle.std.specs.Prelude.{slice_get}
+use Rattle.std.specs.Prelude.{flat_map, slice_get}
 use Rattle.std.specs.List.{Contains}
 use Rattle.idtext.specs.First.{each}
 use Rattle.accounts.specs.Rows.{Passwd, Group}
@@ -16,6 +16,7 @@ use Rattle.keep_text.specs.KeepTexts.{keep_of}
 use Rattle.keep_text.specs.declared.keep_text.KeepText.{KeepText}
 use Rattle.kept_accounts.specs.Reserving.{UnownedNumbers, no_numbers}
 use Rattle.kept_accounts.specs.declared.reserving.UnownedNumber.{UnownedNumber}
+use Rattle.survey.specs.Unowned.{on_host, unowned_gids, unowned_uids}
 use Rattle.site_tables.specs.FaultLaws.{LiesInOne}
 use Rattle.site_tables.specs.Hosts.{host_of}
 use Rattle.site_tables.specs.Others.{keep_read}
@@ -85,6 +86,32 @@ SurveyedTextsFindUnowned =
     (texts : List HostText) (keep_text : List ℕ) (keep : KeepText) (found : UnownedNumbers)
     → keep_of keep_text ≡ Ok keep → surveyed texts keep_text ≡ Ok found
     → FindsUnowned keep texts (map (λ t. t.mtree) texts) found
+
+-- ---- in which order
+
+-- the host at an index, with the files of the inventory at the same index
+pub record IsListedAt (hosts : List Host) (mtrees : List (List ℕ)) (h : ℕ)
+    (here : Host × List Entry) : Type 0 where
+  pub host_is : slice_get hosts h ≡ Some here.0
+  pub mtree : List ℕ
+  pub mtree_is : slice_get mtrees h ≡ Some mtree
+  pub read : inventory most_files mtree ≡ Ok here.1
+
+-- The numbers stand host by host, and those of each host as the survey of its files gives them:
+-- each once, in the order in which files have them first.
+pub record StandHostByHost (hosts : List Host) (mtrees : List (List ℕ)) (found : UnownedNumbers)
+    : Type 0 where
+  pub listed : List (Host × List Entry)
+  pub listed_are : (h : ℕ) (here : Host × List Entry)
+      → (slice_get listed h ≡ Some here) ↔ IsListedAt hosts mtrees h here
+  pub users : found.users ≡ flat_map (λ here. on_host here.0 (unowned_uids here.0 here.1)) listed
+  pub groups : found.groups
+      ≡ flat_map (λ here. on_host here.0 (unowned_gids here.0 here.1)) listed
+
+abbrev pub FoundNumbersStandInOrder : Type 0
+FoundNumbersStandInOrder =
+    (hosts : List Host) (mtrees : List (List ℕ)) (found : UnownedNumbers)
+    → found_on hosts mtrees ≡ Ok found → StandHostByHost hosts mtrees found
 
 -- ---- the first fault
 

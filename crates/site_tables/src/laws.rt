@@ -5,9 +5,11 @@ ghost use Rattle.site_tables.specs.FaultLaws.{UidsAreOfTheirFile, UsersWithoutGr
 ghost use Rattle.site_tables.specs.FileLaws.{FilesAreOfInventories, InventoryLinesAreTold};
 ghost use Rattle.site_tables.specs.MapLaws.{CountedMapsAreWhole};
 ghost use Rattle.site_tables.specs.SeenFaults.{KeepTextsShowTheirFaults};
-ghost use Rattle.site_tables.specs.SiteLaws.{FirstFaultsOfSites, TakenSitesAreBegun};
-ghost use Rattle.site_tables.specs.SurveyLaws.{FirstFaultsOfSurveys, SurveyedTextsFindUnowned};
-ghost use Rattle.site_tables.specs.SurveyLaws.{SurveysFindUnowned};
+ghost use Rattle.site_tables.specs.SiteLaws.{FirstFaultsBeforeCounts, FirstFaultsOfHosts};
+ghost use Rattle.site_tables.specs.SiteLaws.{FirstFaultsOfSites, TakenCountsAreBegun};
+ghost use Rattle.site_tables.specs.SiteLaws.{TakenSitesAreBegun};
+ghost use Rattle.site_tables.specs.SurveyLaws.{FirstFaultsOfSurveys, FoundNumbersStandInOrder};
+ghost use Rattle.site_tables.specs.SurveyLaws.{SurveyedTextsFindUnowned, SurveysFindUnowned};
 ghost use Rattle.site_tables.specs.TextLaws.{BegunCountsAreOfTexts, BegunSitesAreOfTexts};
 ghost use Rattle.site_tables.specs.TextLaws.{HostsAreOfTheirTexts};
 ghost use Rattle.site_tables.specs.ToldLaws.{TextsTellTheirFaults};
@@ -36,7 +38,9 @@ pub fn faults_name_their_file()
 /// A host has these files exactly where its inventory is read as them and each is allowed: it has a
 /// uid that a user of the host has or the host spares, and a gid that a group has or the host
 /// spares. No file is left out. A line is told exactly where the reader refuses the inventory so,
-/// of this host and of no other file; and nothing but a line and an unowned file is told.
+/// of this host and of no other file; and nothing but a line and an unowned file is told. A survey,
+/// and the lines that have come so far, have exactly the files that the reader gives, whichever
+/// numbers these have, and tell nothing but a line. Want of memory is told as itself.
 pub fn files_are_of_inventories()
     ensures files { FilesAreOfInventories }
     ensures lines { InventoryLinesAreTold }
@@ -63,21 +67,35 @@ pub fn begun_sites_are_of_texts()
 /// A merge and a check start from a site exactly where the host list is right, the files of each
 /// host but its inventory are taken, the keep text and the pins text are read, and the accounts are
 /// joined of these. Else the first fault is told, in this order: of the host list, of the hosts one
-/// after the other, of the keep text, of the pins text, of the join.
+/// after the other, of the keep text, of the pins text, of the join. Of the hosts it is the fault
+/// of the first that has one: the files of those before it are taken.
 pub fn sites_are_begun_step_by_step()
     ensures begun { TakenSitesAreBegun }
+    ensures hosts { FirstFaultsOfHosts }
     ensures refused { FirstFaultsOfSites }
+{}
+
+/// A count starts from hosts and a map exactly where the host list is right, the files of each host
+/// but its inventory are taken, the keep text and the map text are read, and the map has exactly
+/// the names of what the keep text leaves of the hosts. Else the first fault is told, in this
+/// order: of the host list, of the hosts one after the other, of the keep text, of the map's text,
+/// of its names.
+pub fn counts_are_begun_step_by_step()
+    ensures begun { TakenCountsAreBegun }
+    ensures refused { FirstFaultsBeforeCounts }
 {}
 
 /// A survey finds a number of a kind exactly where some file of a host has it, no account of the
 /// host's passwd, or group, has it, and it lies in no range that the keep text lists of the kind.
 /// Where the text does not say `unowned`, it finds none. So it is of the inventories as they are
-/// read in passes, and of those of the texts themselves. It is refused only where the text is taken
-/// and says `unowned`, and then with the first fault, in this order: of the host list, of the hosts
-/// one after the other, of the inventories one after the other.
+/// read in passes, and of those of the texts themselves. The numbers stand host by host, those of
+/// each host in the order in which its files have them first, each once. A survey is refused only
+/// where the text is taken and says `unowned`, and then with the first fault, in this order: of the
+/// host list, of the hosts one after the other, of the inventories one after the other.
 pub fn surveys_find_unowned()
     ensures passes { SurveysFindUnowned }
     ensures texts { SurveyedTextsFindUnowned }
+    ensures order { FoundNumbersStandInOrder }
     ensures refused { FirstFaultsOfSurveys }
 {}
 

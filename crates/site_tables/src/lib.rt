@@ -16,9 +16,10 @@ mod unowned;
 
 pub use host::{Loaded, load_host, load_hosts, ownership_fault, read_fault};
 pub use laws::{
-    begun_sites_are_of_texts, counted_maps_are_whole, faults_name_their_file,
-    files_are_of_inventories, hosts_are_of_their_texts, keep_texts_show_their_faults,
-    sites_are_begun_step_by_step, surveys_find_unowned, texts_tell_their_faults,
+    begun_sites_are_of_texts, counted_maps_are_whole, counts_are_begun_step_by_step,
+    faults_name_their_file, files_are_of_inventories, hosts_are_of_their_texts,
+    keep_texts_show_their_faults, sites_are_begun_step_by_step, surveys_find_unowned,
+    texts_tell_their_faults,
 };
 pub use mapped::{MappedHosts, map_tables};
 pub use rules::{KeepRules, SiteRules};

@@ -128,9 +128,9 @@ fn is_map_of_groups(names: &PairTable<'_>, hosts: &[Host<'_>]) -> bool
     host_groups_have_numbers(names, hosts) && pairs_are_groups(names, hosts)
 }
 
-/// Checks that the names of the map are exactly those of the hosts. A look-up by hash on each host
-/// for each of its names.
-pub fn check_names<'a>(names: &MapText<'_>, hosts: &[Host<'_>]) -> Result<(), Fault<'a>>
+// Checks that the names of the map are exactly those of the hosts. A look-up by hash on each host
+// for each of its names.
+fn check_names<'a>(names: &MapText<'_>, hosts: &[Host<'_>]) -> Result<(), Fault<'a>>
     ensures { Gives (λ x. x) told result (names_checked names.now hosts.now) }
 {
     if is_map_of_users(&names.users, hosts) && is_map_of_groups(&names.groups, hosts) {

@@ -32,8 +32,8 @@ pub struct OtherHosts<'a> {
     pub reserved: ReservedNumbers<'a>,
 }
 
-/// What a keep text says. One pass over it, with a look-up by hash for each name.
-pub fn load_keep<'a>(alloc: Global, text: &'a [u8]) -> Result<KeepText<'a>, Fault<'a>>
+// What a keep text says. One pass over it, with a look-up by hash for each name.
+fn load_keep<'a>(alloc: Global, text: &'a [u8]) -> Result<KeepText<'a>, Fault<'a>>
     ensures { Gives (λ keep. keep) told result (keep_read text.now) }
 {
     match read_keep(alloc, text) {
@@ -146,9 +146,9 @@ fn all_hosts(alloc: Global, hosts: Vec<Host<'_>>) -> OtherHosts<'_>
     }
 }
 
-/// What of the hosts is joined, by what is to stay, and which numbers no name is to be given. Asked
-/// is that the hosts spare no number as yet. With the empty keep text they go on as they are, and
-/// nothing is copied.
+/// What of the hosts is joined, by what is to stay, and which numbers no name is to be given.
+/// Requires that the hosts spare no number as yet. With the empty keep text they go on as they are,
+/// and nothing is copied.
 ///
 /// It refuses with `BadKeep` a line of the text. `Fault::Memory` is a growth that was refused. One
 /// pass over the text, a few over the rows of the hosts, with a few look-ups by hash for each, and

@@ -30,14 +30,9 @@ pub struct MappedSite<'a> {
     pub names: MapText<'a>,
 }
 
-/// Reads what comes before the inventories of a site that a map is counted for; the texts of these
-/// are not looked at.
-///
-/// It refuses with the first fault in this order: the host list; host by host login.defs, passwd,
-/// group and the primary groups; the keep text, by line; the map, by line, and then at line 0 where
-/// its names are not exactly those names of the hosts that are not kept. `Fault::Memory` is a
-/// growth that was refused. One pass over each text, and the map's names are looked up on each
-/// host.
+/// Reads what comes before the inventories of a site that a map is counted for; none of them has
+/// come as yet. It refuses with the faults of [`map_tables`], in their order, or for want of
+/// memory, and costs what that does.
 pub fn begin_count<'a>(
     alloc: Global,
     texts: &'a [HostText],

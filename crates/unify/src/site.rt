@@ -21,14 +21,9 @@ pub struct JoinedSite<'a> {
     pub site: Site<'a>,
 }
 
-/// Reads of a site what comes before the inventories: the files of each host but its inventory, the
-/// keep text, the pins text and the join.
-///
-/// It refuses with the first fault in this order: the host list; host by host login.defs, passwd,
-/// group and the primary groups; the keep text, by line; the pins text, by line; the join, users
-/// before groups. `Fault::Memory` is a growth that was refused. One pass over each text; the
-/// inventories are not read. Where the keep text is not empty, what is joined of the hosts is
-/// copied.
+/// Reads of a site what comes before the inventories, of which none has come as yet. It refuses
+/// with the faults of [`join_tables`], in their order, or for want of memory, and costs what that
+/// does.
 pub fn begin_site<'a>(
     alloc: Global,
     host_texts: &'a [HostText],

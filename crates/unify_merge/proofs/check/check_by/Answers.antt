@@ -65,3 +65,8 @@ pub returns-in_err-check-clause-calls : goal.returns-in_err-check-clause-calls
 returns-in_err-check-clause-calls g c =
     let p = err_from_is_err_and c.from_residual-in_err-check.result c.from_residual-in_err-check.ensures.1 in
     rw (p.1, p.2) c.in_ok-count_hosts.ensures.calls
+
+pub returns-in_err-count_hosts-clause-calls : goal.returns-in_err-count_hosts-clause-calls
+returns-in_err-count_hosts-clause-calls g c =
+    let p = err_from_is_err_and c.from_residual-in_err-count_hosts.result c.from_residual-in_err-count_hosts.ensures.1 in
+    rw (p.1, p.2) c.in_err-count_hosts.ensures.calls

@@ -32,3 +32,8 @@ returns-clause-counted g c =
     let new = g.F.ReadFiles.ledger c.count_hosts.new.files in
     let over = counted.1 ∙ ap (λ hs. behind hs counted.0) hosts in
     has_counted c.args.hosts.now c.args.keep.now c.args.map.now begun.0 c.count_hosts.new.inventories c.in_ok-begun.begun.names old new counted.0 _ over begun.1 begun.2.names (counted.2 ∙ ap length hosts) (ap length (sym hosts) ∙ c.in_ok-begun.ensures.hosts) counted.3 counted.4 c.cost.ensures
+
+pub returns-in_err-count_hosts-clause-calls : goal.returns-in_err-count_hosts-clause-calls
+returns-in_err-count_hosts-clause-calls g c =
+    let p = err_from_is_err_and c.from_residual-in_err-count_hosts.result c.from_residual-in_err-count_hosts.ensures.1 in
+    rw (p.1, p.2) c.in_err-count_hosts.ensures.calls

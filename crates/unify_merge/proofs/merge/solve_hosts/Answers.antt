@@ -49,3 +49,8 @@ returns-clause-solved g c =
     has_solved c.args.hosts.now c.args.rules.now begun.0 c.count_hosts.new.inventories site s (g.F.ReadFiles.ledger c.args.files.now) (g.F.ReadFiles.ledger c.count_hosts.new.files) counted.0 accepted.0 over accepted.1 begun.1 begun.2.joined
     (counted.2 ∙ ap length hosts) (ap (λ (v : InventoriesValue). length v.hosts) (sym begun.2.start) ∙ c.in_ok-begun.ensures.hosts) together from counted.3 counted.4)
     c.solve.ensures.solved
+
+pub returns-in_err-count_hosts-clause-calls : goal.returns-in_err-count_hosts-clause-calls
+returns-in_err-count_hosts-clause-calls g c =
+    let p = err_from_is_err_and c.from_residual-in_err-count_hosts.result c.from_residual-in_err-count_hosts.ensures.1 in
+    rw (p.1, p.2) c.in_err-count_hosts.ensures.calls
