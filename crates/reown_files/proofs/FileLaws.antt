@@ -1,16 +1,24 @@
 -- What is asked of files, and a count of them.
-use Rattle.std.proofs.Common.{◌≡◌, ◌+◌, ◌||◌, inl, inr, ℕ, Bool, true, false, cond, List, [], ◌∷◌, ◌++◌, Option, None, Some, refl, sym, ◌∙◌, ap, subst, length, arith}
+use Rattle.std.proofs.Common.{◌≡◌, ◌+◌, ◌&&◌, ◌||◌, inl, inr, ℕ, Bool, true, false, cond, List, [], ◌∷◌, ◌++◌, Option, None, Some, refl, sym, ◌∙◌, ap, subst, length, arith}
 use Rattle.std.specs.List.{count_by}
 use Rattle.std.specs.Option.{option_map}
+use Rattle.std.proofs.lemmas.Bool.{true≢false}
+use Rattle.std.proofs.lemmas.List.Elements.{Contains-append_cases, Contains-push_cases}
 use Rattle.std.proofs.lemmas.List.Recursion.{is_count_by}
+use Rattle.std.specs.Cmp.Lexicographic.{bytes_decides}
+use Rattle.std.specs.List.{Contains}
+use Rattle.std.specs.Str.{bytes_eq}
 use Rattle.reown_plan.specs.declared.plan.Owner.{Owner}
-use Rattle.reown_files.specs.Asked.{Asked, Told, Counted, Awaited, Given, ModeGiven, Synced, names_of, with_name, one_less, met_of, is_named, waits, IsGiven, IsGivenAtMost, IsKept}
-use Rattle.reown_files.specs.FileLaws.{BeginsWithLook, OwnersAreLookedAt, IsGivenBetween, IsAwaited, FilesAreGivenBetweenLooks, is_name_of, NamesAreAllCounted}
-use Rattle.reown_files.specs.Looks.{id_of, is_other}
+use Rattle.reown_files.specs.Asked.{Asked, Told, Counted, Awaited, Given, ModeGiven, Synced, names_of, with_name, one_less, met_of, is_named, waits, is_counted, HasAllNames, HasNamesMet, LacksNames, IsGiven, IsGivenAtMost, IsKept}
+use Rattle.reown_files.specs.FileLaws.{BeginsWithLook, OwnersAreLookedAt, IsGivenBetween, IsAwaited, FilesAreGivenBetweenLooks, is_name_of, NamesAreAllCounted, NamesAreChecked}
+use Rattle.reown_files.specs.Looks.{id_of, is_other, has_several_names}
 use Rattle.reown_files.specs.OneFile.{AreOneFile}
 use Rattle.reown_files.specs.declared.answers.Modes.{Modes}
+use Rattle.reown_files.specs.declared.answers.Trouble.{Trouble}
+use Rattle.reown_files.specs.declared.answers.Trouble.TheVariants.{LinkedElsewhere}
 use Rattle.reown_files.specs.declared.names.Names.{Names}
 use Rattle.reown_files.specs.declared.walk.Found.{Found}
+use Rattle.reown_files.proofs.Laws.{or_true, or_first, and_true}
 
 -- ---- owners that are looked at
 
@@ -119,3 +127,46 @@ module _ (found : Found) where
 
 pub names_all_counted : NamesAreAllCounted
 names_all_counted found asked = (λ h several. sym (met_counted found asked) ∙ h several, λ h several. met_counted found asked ∙ h several)
+
+-- ---- paths by which names were counted
+
+only_one : (a b : Asked) → Contains (a ∷ []) b → a ≡ b
+only_one a b h = elim (Contains-push_cases [] a b h) [ inl none ↦ absurd (omega (arith, none.1)) | inr is ↦ is ]
+
+counted_before : (path : List ℕ) (ask : Asked) (asked : List Asked) → is_counted path asked ≡ true → is_counted path (ask ∷ asked) ≡ true
+counted_before path (Counted q seen after) asked h = or_true (has_several_names seen && bytes_eq path q) (is_counted path asked) h
+counted_before path (Awaited seen) asked h = h
+counted_before path (Told q seen) asked h = h
+counted_before path (Given q after) asked h = h
+counted_before path (ModeGiven q mode) asked h = h
+counted_before path (Synced q) asked h = h
+
+module _ (path : List ℕ) (met : Found) (after : Owner) (several : has_several_names met ≡ true) where
+  counted_first : (asked : List Asked) → is_counted path (Counted path met after ∷ asked) ≡ true
+  counted_first asked =
+      or_first (has_several_names met && bytes_eq path path) (is_counted path asked) (and_true (has_several_names met) (bytes_eq path path) several ((bytes_decides path path).1 refl))
+
+  was_counted : (asked : List Asked) → Contains asked (Counted path met after) → is_counted path asked ≡ true
+  was_counted [] h = absurd (omega (arith, h.1))
+  was_counted (ask ∷ asked) h = elim (Contains-append_cases (ask ∷ []) asked (Counted path met after) h) [
+    | inl one ↦ subst (λ (a : Asked). is_counted path (a ∷ asked) ≡ true) (sym (only_one ask (Counted path met after) one)) (counted_first asked)
+    | inr more ↦ counted_before path ask asked (was_counted asked more)
+  ]
+
+names_looked_at : (path : List ℕ) (met : Found) (after : Owner) (old new : List Asked) → Contains old (Counted path met after) → has_several_names met ≡ true → HasNamesMet path old new → (found : Found) × (new ≡ Told path found ∷ old) × (has_several_names found ≡ true → count_by (is_name_of found) old ≡ found.links)
+names_looked_at path met after old new has several h = elim h [
+  | inl none ↦ absurd (true≢false (sym (was_counted path met after several old has) ∙ none.0))
+  | inr look ↦ (look.0, look.1, (names_all_counted look.0 old).0 look.2)
+]
+
+names_refused : (path : List ℕ) (trouble : Trouble) (found : Found) (old : List Asked) → LacksNames path trouble old (Told path found ∷ old) → (trouble ≡ LinkedElsewhere) × (¬ HasAllNames found old)
+names_refused path trouble found old h = elim h [
+  | inl e ↦ absurd (omega (arith, ap length e))
+  | inr look ↦ (
+      let e : Told path found ∷ old ≡ Told path look.0 ∷ old = look.1 in
+      let is : found ≡ look.0 = cc in
+      (look.2, λ all. look.3 (subst (λ (f : Found). HasAllNames f old) is all)))
+]
+
+pub names_checked : NamesAreChecked
+names_checked = record { looked = names_looked_at; refused = names_refused }

@@ -10,7 +10,7 @@ use Rattle.reown_plan.specs.PlanData.{PlanRecord}
 use Rattle.reown_runner.proofs.Cellwise.{either}
 use Rattle.reown_files.specs.Calls.{Called, Looked, Met, MetMark, Saw, SawMark, NotSeen, MarkNotSeen, CheckedLinks, Gave, SetMode, Kept, Settled, PutMark, KeptMark, ReadModes, LostMode, PutModes}
 use Rattle.reown_files.specs.Lawful.{is_begun, is_unchanged, begins_first, all_asked, is_met, all_met, all_checked, all_modes_kept, were_read, is_settled, is_given}
-use Rattle.reown_files.specs.Laws.{OwnersGoByStage, IsFit, HasOneFault, FilesAreJudged, ChangedPlansAreBegun}
+use Rattle.reown_files.specs.Laws.{OwnersGoByStage, IsFit, HasOneFault, FilesAreJudged, FaultsAreNamed, ChangedPlansAreBegun}
 use Rattle.reown_files.specs.Opening.{IsUnfit}
 use Rattle.reown_files.specs.declared.answers.OpenFault.{OpenFault}
 use Rattle.reown_files.specs.declared.answers.OpenFault.TheVariants.{Missing, Foreign, Unfinished, AlreadyChanged, File, Disk, Modes, Memory}
@@ -143,6 +143,15 @@ module _ (i : ℕ) (r : PlanRecord) where
 
 pub are_judged : FilesAreJudged
 are_judged = record { either = λ stage i r found. judged i r stage found; never_both = λ stage i r found fit fault. never i r stage found fit fault }
+
+pub are_named : (i : ℕ) (r : PlanRecord) → FaultsAreNamed i r
+are_named i r =
+    record {
+      missing = λ stage. (refl, refl);
+      foreign = λ stage owner old new. (refl, refl, old, new);
+      unfinished = λ apart. (refl, refl, apart, refl);
+      changed = λ apart. (refl, refl, apart, refl);
+    }
 
 -- ---- a plan of which a file was changed
 

@@ -6,7 +6,7 @@ use Rattle.reown_plan.specs.Mark.{mark_of, mark_eq}
 use Rattle.reown_plan.specs.Owners.{owner_eq}
 use Rattle.reown_files.specs.Actions.{Action, FileRead, modes_read}
 use Rattle.reown_files.specs.Asked.{line_of}
-use Rattle.reown_files.specs.Laws.{MarksPutAreSeen, ModesPutAreRead, LinesAreOfMetFiles, entries_met}
+use Rattle.reown_files.specs.Laws.{MarksPutAreSeen, MarksAreMetAsSeen, ModesPutAreRead, LinesAreOfMetFiles, entries_met}
 use Rattle.reown_files.specs.Looks.{has_set_id}
 use Rattle.reown_files.specs.MarkText.{Entry, entry, line_text, lines_text, lines_told, mark_text, mark_told, modes_text, mode_in, text_or_empty}
 use Rattle.reown_files.specs.Trees.{HasRead, HasModesOf, IsTold}
@@ -34,6 +34,9 @@ marks_seen =
           same_answer set false (sym h.1 ∙ ap (mark_told plan) (sym text));
     }
 
+pub marks_met : MarksAreMetAsSeen
+marks_met mark plan set old new h = (FileRead mark h.0 ∷ old, (h.0, h.1, refl), h.2)
+
 -- ---- the modes
 
 module _ (mark modes : List ℕ) (beside : Option (List ℕ)) (text : List ℕ) (actions : List Action) where
@@ -48,7 +51,7 @@ module _ (mark modes : List ℕ) (beside : Option (List ℕ)) (text : List ℕ) 
       let e' : FileRead mark beside ∷ FileRead modes (Some text) ∷ actions ≡ FileRead mark other ∷ FileRead modes (Some there) ∷ actions = e in
       let same : there ≡ text = cc in ap Some same
 
-same_lines : (a b : Option (List ℕ)) (told : Result (Option (List ℕ)) Trouble) → told ≡ Ok a → told ≡ Ok b → a ≡ b
+pub same_lines : (a b : Option (List ℕ)) (told : Result (Option (List ℕ)) Trouble) → told ≡ Ok a → told ≡ Ok b → a ≡ b
 same_lines a b told one other = cc
 
 same_entries : (a b : List Entry) → Some a ≡ Some b → a ≡ b

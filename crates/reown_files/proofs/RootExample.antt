@@ -3,15 +3,16 @@ use Rattle.std.proofs.Common.{Option, Some, None, inl, inr, ◌≡◌, ◌↔◌
 use Rattle.std.proofs.Math.Seq.{drop-append_seam}
 use Rattle.reown_plan.specs.declared.plan.Owner.{Owner}
 use Rattle.reown_plan.specs.Owners.{owner_eq}
+use Rattle.reown_files.specs.declared.answers.Modes.{Modes}
 use Rattle.reown_files.specs.declared.walk.Found.{Found}
 use Rattle.reown_files.specs.declared.walk.Kind.TheVariants.{Regular}
-use Rattle.reown_files.specs.Asked.{Asked, Told, Counted, ModeGiven, Synced, IsModeSet, IsKept, HasOneOwner, met, line_of}
-use Rattle.reown_files.specs.Actions.{Action, FileRead, TextPut, NameSynced, FileRemoved}
+use Rattle.reown_files.specs.Asked.{Asked, Told, Counted, Awaited, Given, ModeGiven, Synced, IsGiven, IsGivenAtMost, IsModeSet, IsKept, HasOneOwner, met, line_of}
+use Rattle.reown_files.specs.Actions.{Action, FileRead, TextPut, NameSynced, FileRemoved, new_beside}
 use Rattle.reown_files.specs.Looks.{seen_of, is_other}
 use Rattle.reown_files.specs.NamesExample.{path, told, program, file_at, twice, both_met}
 use Rattle.reown_files.specs.OneFile.{HasLost}
 use Rattle.reown_files.specs.RootData.{IsMet, IsLostOf, IsPathFrom}
-use Rattle.reown_files.specs.RootExample.{root, bare, whole, ExampleOfAnswers, ExampleOfMet, ExampleOfLost, ExampleOfChanges, ExampleOfMarks, ExampleOfPaths, mark, modes}
+use Rattle.reown_files.specs.RootExample.{root, bare, whole, ExampleOfAnswers, ExampleOfMet, ExampleOfLost, ExampleOfGiven, ExampleOfChanges, ExampleOfMarks, ExampleOfPaths, mark, modes}
 use Rattle.reown_files.specs.Runs.{old, new, foreign}
 use Rattle.reown_files.proofs.Laws.{differ}
 use Rattle.reown_files.proofs.LooksExample.{all_names, lost_modes}
@@ -91,7 +92,7 @@ answers =
       not_met = λ owner h. never_met new [] h.0 (owner_eq h.0.owner new) (is_other h.0.kind) h.3;
     }
 
--- ---- modes that are lost, modes that are set, and files that are kept
+-- ---- modes that are lost
 
 new_is_not_old : ¬ (new ≡ old)
 new_is_not_old e = differ 200 100 refl (ap (λ (o : Owner). o.uid) e)
@@ -129,6 +130,69 @@ lost_roots =
       not_read = λ mode. (λ h. h.0, λ is. (is, refl));
       not_looked = λ mode h. let e : [] ≡ Told path h.0 ∷ [] = h.2 in absurd cc;
     }
+
+-- ---- owners that are given
+
+modes_are : (modes : Modes) (before after : ℕ) → modes.before ≡ before → modes.after ≡ after → modes ≡ record { before = before; after = after }
+modes_are modes before after was is =
+    let first : modes ≡ record { before = before; after = modes.after } = ap (λ n. record { before = n; after = modes.after }) was in
+    first ∙ ap (λ n. record { before = before; after = n }) is
+
+-- what was asked where the program is given an owner, up to the change of it
+abbrev to_owner : Owner → List Asked
+to_owner owner = Given path owner ∷ Awaited program ∷ Told path program ∷ []
+
+given_new : (after : Owner) (modes : Modes) → IsGiven path old after modes [] (Told path bare ∷ to_owner new) ↔ ((after ≡ new) × (modes ≡ record { before = 2541; after = 493 }))
+given_new after modes = (
+  λ h. elim h.3 [
+    | inl way ↦ absurd (let e : Told path bare ∷ to_owner new ≡ Awaited h.0 ∷ Told path h.0 ∷ [] = way.2 in cc)
+    | inr way ↦ (
+        let now = way.1.0 in
+        let e : Told path bare ∷ to_owner new ≡ Told path now ∷ Given path after ∷ Awaited h.0 ∷ Told path h.0 ∷ [] = way.1.4 in
+        let was : program ≡ h.0 = cc in
+        let is : bare ≡ now = cc in
+        let to : after ≡ new = cc in
+        (to, modes_are modes 2541 493 (h.2 ∙ ap (λ (f : Found). f.mode) (sym was)) (way.1.3 ∙ ap (λ (f : Found). f.mode) (sym is))))
+  ],
+  λ is. (
+    program,
+    refl,
+    ap (λ (m : Modes). m.before) is.1,
+    inr (refl, (bare, sym is.0, (refl, refl, refl), ap (λ (m : Modes). m.after) is.1, ap (λ (o : Owner). Told path bare ∷ to_owner o) (sym is.0))),
+  ),
+)
+
+waits_on : (after : Owner) (modes : Modes) → IsGiven path old after modes both_met (Awaited twice ∷ Told path twice ∷ both_met) ↔ (modes ≡ record { before = 493; after = 493 })
+waits_on after modes = (
+  λ h. elim h.3 [
+    | inl way ↦ (
+        let e : Awaited twice ∷ Told path twice ∷ both_met ≡ Awaited h.0 ∷ Told path h.0 ∷ both_met = way.2 in
+        let was : twice ≡ h.0 = cc in
+        let mode = ap (λ (f : Found). f.mode) (sym was) in
+        modes_are modes 493 493 (h.2 ∙ mode) (way.1 ∙ mode))
+    | inr way ↦ absurd (let e : Awaited twice ∷ Told path twice ∷ both_met ≡ Told path way.1.0 ∷ Given path after ∷ Awaited h.0 ∷ Told path h.0 ∷ both_met = way.1.4 in cc)
+  ],
+  λ is. (twice, refl, ap (λ (m : Modes). m.before) is, inl (refl, ap (λ (m : Modes). m.after) is, refl)),
+)
+
+given_at_most : (after : Owner) → IsGivenAtMost path old after [] (to_owner new) ↔ (after ≡ new)
+given_at_most after = (
+  λ h. elim h [
+    | inl (inl e) ↦ absurd (let e' : to_owner new ≡ [] = e in cc)
+    | inl (inr told) ↦ absurd (let e : to_owner new ≡ Told path told.0 ∷ [] = told.1 in cc)
+    | inr (found, owner, last, way) ↦ elim way [
+      | inl e ↦ absurd (let e' : to_owner new ≡ Awaited found ∷ Told path found ∷ [] = e in cc)
+      | inr (inl e) ↦ (let e' : to_owner new ≡ Given path after ∷ Awaited found ∷ Told path found ∷ [] = e in cc)
+      | inr (inr told) ↦ absurd (let e : to_owner new ≡ Told path told.0 ∷ Given path after ∷ Awaited found ∷ Told path found ∷ [] = told.1 in cc)
+    ]
+  ],
+  λ is. inr (program, refl, refl, inr (inl (ap to_owner (sym is)))),
+)
+
+pub given_roots : ExampleOfGiven
+given_roots = record { given = given_new; waiting = waits_on; failed = given_at_most }
+
+-- ---- modes that are set, and files that are kept
 
 mode_set : (mode : ℕ) → IsModeSet path new mode [] (ModeGiven path 2541 ∷ Told path bare ∷ []) ↔ (mode ≡ 2541)
 mode_set mode = (
@@ -190,13 +254,13 @@ marks text before =
       ];
       not_written = λ was_done since h. elim h [
         | inl e ↦ longer (NameSynced modes) since before e
-        | inr e ↦ let e' : NameSynced modes ∷ since ++ before ≡ TextPut modes text ∷ before = e.1 in absurd cc
+        | inr e ↦ let e' : NameSynced modes ∷ since ++ before ≡ TextPut (new_beside modes) modes text ∷ before = e.1 in absurd cc
       ];
       not_read = λ since h. elim h [
-        | inl e ↦ longer (TextPut modes text) since before e
+        | inl e ↦ longer (TextPut (new_beside modes) modes text) since before e
         | inr e ↦ elim e.1 [
-          | inl f ↦ let e' : TextPut modes text ∷ since ++ before ≡ FileRead modes e.0 ∷ before = f in absurd cc
-          | inr f ↦ let e' : TextPut modes text ∷ since ++ before ≡ FileRead mark f.0 ∷ FileRead modes e.0 ∷ before = f.1 in absurd cc
+          | inl f ↦ let e' : TextPut (new_beside modes) modes text ∷ since ++ before ≡ FileRead modes e.0 ∷ before = f in absurd cc
+          | inr f ↦ let e' : TextPut (new_beside modes) modes text ∷ since ++ before ≡ FileRead mark f.0 ∷ FileRead modes e.0 ∷ before = f.1 in absurd cc
         ]
       ];
     }
@@ -212,6 +276,8 @@ pub paths : ExampleOfPaths
 paths =
     record {
       beside = refl;
+      new = refl;
+      new_modes = refl;
       from_root = refl;
       from_here = refl;
       same = λ whole. (λ h. h, λ h. h);

@@ -152,10 +152,10 @@ ended_by_one_mark plan other entries is is' =
 
 -- ---- what a run goes by
 
-same_marks : (a : PlanMark) → mark_eq a a ≡ true
+pub same_marks : (a : PlanMark) → mark_eq a a ≡ true
 same_marks a = (marks_compare a a).1 refl
 
-other_marks : (a b : PlanMark) → a ≢ b → mark_eq a b ≡ false
+pub other_marks : (a b : PlanMark) → a ≢ b → mark_eq a b ≡ false
 other_marks a b apart = elim (cases_Bool (mark_eq a b)) [ inl is ↦ absurd (apart ((marks_compare a b).0 is)) | inr is ↦ is ]
 
 own_judged : (plan : PlanData) (entries : List Entry) (mark : List ℕ) → IsMarkable plan
@@ -165,7 +165,7 @@ own_judged plan entries mark is =
     let lines = lines_text entries in
     ap (lines_judged (has_ended mark (modes_text p lines))) (modes_of_one_plan plan plan entries is is ∙ ap (λ b. Some (cond b (Some lines) None)) (same_marks p))
 
-other_judged : (plan other : PlanData) (entries : List Entry) (mark : List ℕ) (ended : Bool) → IsMarkable plan → IsMarkable other → mark_of other ≢ mark_of plan
+pub other_judged : (plan other : PlanData) (entries : List Entry) (mark : List ℕ) (ended : Bool) → IsMarkable plan → IsMarkable other → mark_of other ≢ mark_of plan
     → has_ended mark (modes_text (mark_of other) (lines_text entries)) ≡ ended
     → modes_judged (head_text (mark_of plan)) mark (modes_text (mark_of other) (lines_text entries)) ≡ lines_judged ended (Some None)
 other_judged plan other entries mark ended is is' apart e =

@@ -2,21 +2,25 @@
 -- newest first.
 -- Source: this project's own rule.
 use Rattle.std.specs.Prelude.{◌≡◌, ◌⊎◌, ℕ, Bool, true, false, List, ◌∷◌, Option, None, Some}
-use Rattle.std.specs.Prelude.{if◌then◌else◌}
+use Rattle.std.specs.Prelude.{if◌then◌else◌, ◌++◌, codes}
 use Rattle.reown_plan.specs.declared.mark.PlanMark.{PlanMark}
 use Rattle.reown_files.specs.MarkText.{mark_told}
 
 pub data Action : Type 0 where
   -- the file at this path was read: this is its text, or as much of it as is read, if it is there
   FileRead : (path : List ℕ) (text : Option (List ℕ)) → Action
-  -- this text was put at this path, whole
-  TextPut : (path text : List ℕ) → Action
+  -- this text was put at this path, whole: it was written as a new file at another, and renamed
+  TextPut : (new path text : List ℕ) → Action
   -- the name of the file at this path was synced
   NameSynced : (path : List ℕ) → Action
   -- what was at this path was removed, if it was there
   FileRemoved : (path : List ℕ) → Action
   -- the root was synced, and on a file system with one journal all that was changed before
   RootSettled : Action
+
+-- where a text is written that is put at this path
+abbrev pub new_beside : List ℕ → List ℕ
+new_beside path = path ++ codes ".new"
 
 -- ---- the mark
 
@@ -71,9 +75,9 @@ IsModesReadAtMost mark modes old new =
 abbrev pub modes_put : List ℕ → Bool → List ℕ → List Action → List Action
 modes_put modes was_done text actions =
     if was_done then FileRemoved modes ∷ actions
-    else NameSynced modes ∷ TextPut modes text ∷ actions
+    else NameSynced modes ∷ TextPut (new_beside modes) modes text ∷ actions
 
 -- modes that could not be written down were put at most, and not synced
 abbrev pub IsModesPutAtMost : List ℕ → Bool → List ℕ → List Action → List Action → Type 0
 IsModesPutAtMost modes was_done text old new =
-    (new ≡ old) ⊎ ((was_done ≡ false) × (new ≡ TextPut modes text ∷ old))
+    (new ≡ old) ⊎ ((was_done ≡ false) × (new ≡ TextPut (new_beside modes) modes text ∷ old))

@@ -11,7 +11,7 @@ use Rattle.reown_files.specs.declared.actions.Action.TheVariants as code
 abbrev pub action_of : ActionCode → Action
 action_of (code.FileRead path text) = FileRead path.now (Some text.now)
 action_of (code.FileMissed path) = FileRead path.now None
-action_of (code.TextPut path text) = TextPut path.now text.now
+action_of (code.TextPut new path text) = TextPut new.now path.now text.now
 action_of (code.NameSynced path) = NameSynced path.now
 action_of (code.FileRemoved path) = FileRemoved path.now
 action_of code.RootSettled = RootSettled

@@ -2,14 +2,17 @@
 -- Sources: chown(2) for the bits that a change of the owner clears; stat(2): a file is told by its
 -- device and its number there. All else is this project's own rule.
 use Rattle.std.specs.Prelude.{◌≡◌, ◌↔◌, ℕ, Bool, true, false, ◌&&◌, List, ◌∷◌, ◌++◌}
-use Rattle.std.specs.Prelude.{count_by}
+use Rattle.std.specs.Prelude.{count_by, Contains}
 use Rattle.reown_plan.specs.declared.plan.Owner.{Owner}
 use Rattle.reown_files.specs.Asked.{Asked, Told, Counted, Awaited, Given, waits, HasAllNames}
 use Rattle.reown_files.specs.Asked.{IsGiven, IsGivenAtMost, IsModeSet, IsKept}
+use Rattle.reown_files.specs.Asked.{HasNamesMet, LacksNames}
 use Rattle.reown_files.specs.Looks.{has_several_names, is_file, id_of}
 use Rattle.reown_files.specs.OneFile.{AreOneFile}
 use Rattle.reown_files.specs.RootData.{RootData, HasLostAt}
 use Rattle.reown_files.specs.declared.answers.Modes.{Modes}
+use Rattle.reown_files.specs.declared.answers.Trouble.{Trouble}
+use Rattle.reown_files.specs.declared.answers.Trouble.TheVariants.{LinkedElsewhere}
 use Rattle.reown_files.specs.declared.walk.Found.{Found}
 
 -- ---- owners
@@ -86,3 +89,16 @@ NamesAreAllCounted =
     (found : Found) (asked : List Asked)
     → HasAllNames found asked
     ↔ (has_several_names found ≡ true → count_by (is_name_of found) asked ≡ found.links)
+
+-- a path by which a name of a file with several was counted is passed only after a look by it, and
+-- only where all names of what that look told were counted; and after a look it is refused only
+-- where they were not
+pub record NamesAreChecked : Type 0 where
+  pub looked : (path : List ℕ) (met : Found) (after : Owner) (old new : List Asked)
+      → Contains old (Counted path met after) → has_several_names met ≡ true
+      → HasNamesMet path old new
+      → (found : Found) × (new ≡ Told path found ∷ old)
+      × (has_several_names found ≡ true → count_by (is_name_of found) old ≡ found.links)
+  pub refused : (path : List ℕ) (trouble : Trouble) (found : Found) (old : List Asked)
+      → LacksNames path trouble old (Told path found ∷ old)
+      → (trouble ≡ LinkedElsewhere) × (¬ HasAllNames found old)

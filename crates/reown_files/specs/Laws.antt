@@ -14,9 +14,10 @@ use Rattle.reown_plan.specs.Spelling.{spelling, IsHostName}
 use Rattle.reown_files.specs.MarkText.{mark_text, mark_read, head_text, modes_text}
 use Rattle.reown_files.specs.MarkText.{lines_in, has_ended, Entry, lines_text, lines_read}
 use Rattle.reown_files.specs.MarkText.{modes_judged, entry, mode_in}
-use Rattle.reown_files.specs.Actions.{Action, FileRead, IsMarkRead}
+use Rattle.reown_files.specs.Actions.{Action, FileRead, TextPut, NameSynced, FileRemoved}
+use Rattle.reown_files.specs.Actions.{IsMarkRead, IsMarkMet, modes_read, modes_put, new_beside}
 use Rattle.reown_files.specs.Looks.{has_set_id}
-use Rattle.reown_files.specs.RootData.{RootData, IsMet}
+use Rattle.reown_files.specs.RootData.{RootData, IsMet, ReadsMore, mode_noted}
 use Rattle.reown_files.specs.Trees.{AreRead, mode_at}
 use Rattle.reown_files.specs.Calls.{Called, MetMark, PutMark, ReadModes}
 use Rattle.reown_files.specs.Lawful.{is_lawful, is_unchanged, is_begun}
@@ -25,6 +26,8 @@ use Rattle.reown_files.specs.Replay.{Held, replay}
 use Rattle.reown_files.specs.Stages.{MayHave, stage_in}
 use Rattle.reown_files.specs.declared.answers.Trouble.TheVariants.{NotModes, OtherPlan}
 use Rattle.reown_files.specs.declared.answers.OpenFault.{OpenFault}
+use Rattle.reown_files.specs.declared.answers.OpenFault.TheVariants.{Missing, Foreign, Unfinished}
+use Rattle.reown_files.specs.declared.answers.OpenFault.TheVariants.{AlreadyChanged}
 use Rattle.reown_files.specs.declared.walk.Found.{Found}
 use Rattle.reown_files.specs.declared.stage.Stage.{Stage}
 use Rattle.reown_files.specs.declared.stage.Stage.TheVariants.{NotBegun, Begun, Done}
@@ -111,6 +114,14 @@ pub record MarksPutAreSeen : Type 0 where
   pub none : (plan : PlanMark) (mark : List ℕ) (set : Bool) (old : List Action)
       → IsMarkRead mark plan set old (FileRead mark None ∷ old) → set ≡ false
 
+-- a mark is met as it is seen, and synced after that where it is there
+abbrev pub MarksAreMetAsSeen : Type 0
+MarksAreMetAsSeen =
+    (mark : List ℕ) (plan : PlanMark) (set : Bool) (old new : List Action)
+    → IsMarkMet mark plan set old new
+    → (seen : List Action) × IsMarkRead mark plan set old seen
+    × (new ≡ (if set then NameSynced mark ∷ seen else seen))
+
 -- where the file of the modes has the text that was put for a plan, that plan counts as begun,
 -- whatever the mark is, and each file has the mode that was written down last for it
 abbrev pub ModesPutAreRead : Type 0
@@ -125,6 +136,72 @@ ModesPutAreRead =
     read tree now noted
     → (begun ≡ true) × (now ≡ Some (mark_of plan))
     × ((path : List ℕ) → mode_at noted path ≡ mode_in entries path)
+
+-- modes were read, and the two files had these texts, or are not there
+abbrev pub AreReadOf
+    : PlanMark → Option (List ℕ) → Option (List ℕ) → Bool → Bool → Option PlanMark
+    → List (Vec ℕ Global × ℕ) → Option PlanMark → List (Vec ℕ Global × ℕ) → Type 0
+AreReadOf plan beside text set begun old tree new noted =
+    (mark modes : List ℕ) × (actions : List Action)
+    × AreRead mark modes plan set begun actions
+    (modes_read mark modes beside text actions) old tree new noted
+
+-- the text of the modes that a plan's run has put
+abbrev pub text_put : PlanData → List Entry → Option (List ℕ)
+text_put plan entries = Some (modes_text (mark_of plan) (lines_text entries))
+
+-- Where the file of the modes is not there, no run of the plan is told, and no modes are taken. So
+-- it is where another plan has put that file, and its mark tells that it has ended; where there is
+-- no mark or a third plan's, nothing is answered. And no modes are taken where the mark of the plan
+-- is there: those that were taken before stay.
+pub record TakesNone
+    (begun : Bool) (old new : Option PlanMark) (tree noted : List (Vec ℕ Global × ℕ))
+    : Type 0 where
+  pub none : (plan : PlanMark) (beside : Option (List ℕ)) (set : Bool)
+      → AreReadOf plan beside None set begun old tree new noted
+      → (begun ≡ false) × (new ≡ old) × (noted ≡ tree)
+  pub others : (plan other : PlanData) (entries : List Entry)
+      → (beside : Option (List ℕ)) (set : Bool)
+      → IsMarkable plan → IsMarkable other → mark_of other ≢ mark_of plan
+      → AreReadOf (mark_of plan) beside (text_put other entries) set begun old tree new noted
+      → (begun ≡ false) × (new ≡ old) × (noted ≡ tree)
+  pub ended : (plan other : PlanData) (entries : List Entry)
+      → IsMarkable plan → IsMarkable other → mark_of other ≢ mark_of plan
+      → AreReadOf (mark_of plan) (Some (mark_text (mark_of other))) (text_put other entries)
+      false false old tree old tree
+  pub unended : (plan other third : PlanData) (entries : List Entry) (set : Bool)
+      → IsMarkable plan → IsMarkable other → IsMarkable third
+      → mark_of other ≢ mark_of plan → mark_of other ≢ mark_of third
+      → ¬ AreReadOf (mark_of plan) (Some (mark_text (mark_of third))) (text_put other entries)
+      set begun old tree new noted
+  pub unmarked : (plan other : PlanData) (entries : List Entry) (set : Bool)
+      → IsMarkable plan → IsMarkable other → mark_of other ≢ mark_of plan
+      → ¬ AreReadOf (mark_of plan) None (text_put other entries) set begun old tree new noted
+  pub done : (plan : PlanMark) (beside text : Option (List ℕ))
+      → AreReadOf plan beside text true begun old tree new noted
+      → (new ≡ old) × (noted ≡ tree)
+
+abbrev pub ModesOfNoneAreLeft : Type 0
+ModesOfNoneAreLeft =
+    (begun : Bool) (old new : Option PlanMark) (tree noted : List (Vec ℕ Global × ℕ))
+    → TakesNone begun old new tree noted
+
+-- the modes that were taken are told of the plan that they were read for, and of no other
+pub record ModesAreToldOfTheirPlan (plan : PlanMark) (path : List ℕ) (root : RootData)
+    : Type 0 where
+  pub own : root.read ≡ Some plan → mode_noted plan path root ≡ mode_at root.modes path
+  pub other : root.read ≢ Some plan → mode_noted plan path root ≡ None
+
+-- where the mark of the plan was there when the modes were read, the file of the modes is removed
+-- in place of being put; and else it is put
+abbrev pub ModesGoByTheMark : Type 0
+ModesGoByTheMark =
+    (set : Bool) (text : List ℕ) (actions : List Action) (old read : RootData)
+    → ReadsMore set old read
+    → modes_put read.modes_path read.was_done text actions
+    ≡ (if set then FileRemoved old.modes_path ∷ actions
+    else NameSynced old.modes_path
+    ∷ TextPut (new_beside old.modes_path) old.modes_path text ∷ actions)
 
 -- what is written down of a file that was met: its mode, where it is at another owner than its new
 -- one and has a set-ID bit
@@ -200,6 +277,16 @@ pub record FilesAreJudged : Type 0 where
       → IsFit stage r found ⊎ HasOneFault stage i r found
   pub never_both : (stage : Stage) (i : ℕ) (r : PlanRecord) (found : Option Owner)
       → IsFit stage r found → (fault : OpenFault) → ¬ IsUnfit stage i r found fault
+
+-- the fault with a file is named by what was met, and told of its record's place: it is not there;
+-- it has an owner that is neither of the two; the plan is done, and it has its old one; or no run
+-- was begun, and it has its new one
+pub record FaultsAreNamed (i : ℕ) (r : PlanRecord) : Type 0 where
+  pub missing : (stage : Stage) → IsUnfit stage i r None (Missing i)
+  pub foreign : (stage : Stage) (owner : Owner) → owner ≢ r.before → owner ≢ r.after
+      → IsUnfit stage i r (Some owner) (Foreign i owner)
+  pub unfinished : r.before ≢ r.after → IsUnfit Done i r (Some r.before) (Unfinished i)
+  pub changed : r.after ≢ r.before → IsUnfit NotBegun i r (Some r.after) (AlreadyChanged i)
 
 -- where calls are lawful and a file was given an owner, modes were written down before that, so
 -- that the plan counts as begun

@@ -13,6 +13,7 @@ pub mod FileLaws
 pub mod Examples
 pub mod Runs
 pub mod CountExample
+pub mod CountLaws
 pub mod NamesExample
 pub mod ModesNoted
 pub mod OneFile

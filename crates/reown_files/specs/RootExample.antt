@@ -5,12 +5,14 @@
 use Rattle.std.specs.Prelude.{◌≡◌, ◌↔◌, ℕ, Bool, true, false, List, [], ◌∷◌, ◌++◌, codes}
 use Rattle.std.specs.Prelude.{Option, None, Some, drop, length, ◌-◌}
 use Rattle.reown_plan.specs.declared.plan.Owner.{Owner}
+use Rattle.reown_files.specs.declared.answers.Modes.{Modes}
 use Rattle.reown_files.specs.declared.answers.Seen.{Seen}
 use Rattle.reown_files.specs.declared.walk.Found.{Found}
 use Rattle.reown_files.specs.declared.walk.Kind.TheVariants.{Regular}
-use Rattle.reown_files.specs.Asked.{Asked, Told, Counted, ModeGiven, Synced, IsModeSet, IsKept}
+use Rattle.reown_files.specs.Asked.{Asked, Told, Counted, Awaited, Given, ModeGiven, Synced}
+use Rattle.reown_files.specs.Asked.{IsGiven, IsGivenAtMost, IsModeSet, IsKept}
 use Rattle.reown_files.specs.Actions.{Action, FileRead, TextPut, NameSynced, FileRemoved, mark_met}
-use Rattle.reown_files.specs.Actions.{mark_kept, modes_read, modes_put, IsReadAtMost}
+use Rattle.reown_files.specs.Actions.{new_beside, mark_kept, modes_read, modes_put, IsReadAtMost}
 use Rattle.reown_files.specs.Actions.{IsMarkSyncedAtMost, IsModesReadAtMost, IsModesPutAtMost}
 use Rattle.reown_files.specs.NamesExample.{path, told, program, file_at, at_old, twice, both_met}
 use Rattle.reown_files.specs.RootData.{RootData, IsSeen, IsSeenAt, IsMet, HasLostAt}
@@ -105,6 +107,22 @@ pub record ExampleOfLost : Type 0 where
       → TellsLost path new None mode [] [] ↔ (mode ≡ None)
   pub not_looked : (mode : Option ℕ) → ¬ TellsLost path new (Some 2541) mode [] []
 
+-- a file at its old owner is given its new one, and no other, between two looks, and the modes that
+-- these told are answered; one of which another name is to have that owner still is looked at
+-- alone. Where the call fails the file is given that owner too, if one at all
+pub record ExampleOfGiven : Type 0 where
+  pub given : (after : Owner) (modes : Modes)
+      → IsGiven path old after modes []
+      (Told path bare ∷ Given path new ∷ Awaited program ∷ Told path program ∷ [])
+      ↔ ((after ≡ new) × (modes ≡ record { before = 2541; after = 493 }))
+  pub waiting : (after : Owner) (modes : Modes)
+      → IsGiven path old after modes both_met (Awaited twice ∷ Told path twice ∷ both_met)
+      ↔ (modes ≡ record { before = 493; after = 493 })
+  pub failed : (after : Owner)
+      → IsGivenAtMost path old after []
+      (Given path new ∷ Awaited program ∷ Told path program ∷ [])
+      ↔ (after ≡ new)
+
 -- a file is given the mode that is named, and no other or none; one that is kept is synced exactly
 -- where there is not one journal
 pub record ExampleOfChanges : Type 0 where
@@ -133,7 +151,7 @@ pub record ExampleOfMarks (text : List ℕ) (before : List Action) : Type 0 wher
       ≡ FileRead mark None ∷ FileRead modes (Some text) ∷ before
   pub no_modes : modes_read mark modes None None before ≡ FileRead modes None ∷ before
   pub written : modes_put modes false text before
-      ≡ NameSynced modes ∷ TextPut modes text ∷ before
+      ≡ NameSynced modes ∷ TextPut (new_beside modes) modes text ∷ before
   pub done : modes_put modes true text before ≡ FileRemoved modes ∷ before
   pub not_met : (since : List Action)
       → ¬ IsReadAtMost mark before (NameSynced mark ∷ since ++ before)
@@ -142,12 +160,16 @@ pub record ExampleOfMarks (text : List ℕ) (before : List Action) : Type 0 wher
   pub not_written : (was_done : Bool) (since : List Action)
       → ¬ IsModesPutAtMost modes was_done text before (NameSynced modes ∷ since ++ before)
   pub not_read : (since : List Action)
-      → ¬ IsModesReadAtMost mark modes before (TextPut modes text ∷ since ++ before)
+      → ¬ IsModesReadAtMost mark modes before
+      (TextPut (new_beside modes) modes text ∷ since ++ before)
 
--- the modes stand beside the mark, which stands where it is named; a path that begins at the
+-- the modes stand beside the mark, which stands where it is named, and each is written beside itself
+-- before it gets its name; a path that begins at the
 -- working directory has a way to that before it, and a slash
 pub record ExampleOfPaths : Type 0 where
   pub beside : modes_beside mark ≡ modes
+  pub new : new_beside mark ≡ codes "plan.done.new"
+  pub new_modes : new_beside modes ≡ codes "plan.done.modes.new"
   pub from_root : is_absolute (codes "/srv/plan.done") ≡ true
   pub from_here : is_absolute mark ≡ false
   pub same : (whole : List ℕ)

@@ -23,8 +23,8 @@ pub enum Action<'a> {
     FileRead(&'a [u8], &'a [u8]),
     /// The file at this path was to be read, and is not there.
     FileMissed(&'a [u8]),
-    /// This text was put at this path, whole.
-    TextPut(&'a [u8], &'a [u8]),
+    /// This text was written as a new file at the first path, and put at the second by that, whole.
+    TextPut(&'a [u8], &'a [u8], &'a [u8]),
     /// The name of the file at this path was synced.
     NameSynced(&'a [u8]),
     /// What was at this path was removed, if it was there.

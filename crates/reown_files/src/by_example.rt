@@ -6,7 +6,7 @@ ghost use Rattle.reown_files.specs.NamesExample.{ExampleOfLooks, ExampleOfMeetin
 ghost use Rattle.reown_files.specs.NamesExample.{ExampleOfAllNames, ExampleOfOneFile};
 ghost use Rattle.reown_files.specs.NamesExample.{ExampleOfLostModes};
 ghost use Rattle.reown_files.specs.RootExample.{ExampleOfAnswers, ExampleOfMet, ExampleOfLost};
-ghost use Rattle.reown_files.specs.RootExample.{ExampleOfChanges, ExampleOfMarks};
+ghost use Rattle.reown_files.specs.RootExample.{ExampleOfGiven, ExampleOfChanges, ExampleOfMarks};
 ghost use Rattle.reown_files.specs.RootExample.{ExampleOfPaths};
 ghost use Rattle.reown_files.specs.Actions.{Action};
 ghost use Rattle.reown_files.specs.Runs.{is_run, note, program, both, run_of_note, run_of_program};
@@ -68,12 +68,13 @@ pub fn looks_by_example()
 {}
 
 /// What the calls of `Root` answer of a file and write down, which modes they tell as lost, which
-/// they set, which files they sync, what they do to the files of the mark and of the modes, and
-/// where these stand, by example.
+/// owner they give and which mode they set, which files they sync, what they do to the files of the
+/// mark and of the modes, and where these stand, by example.
 pub fn roots_by_example()
     ensures answers { ExampleOfAnswers }
     ensures met { ExampleOfMet }
     ensures lost { ExampleOfLost }
+    ensures given { ExampleOfGiven }
     ensures changes { ExampleOfChanges }
     ensures marks { (text : List ℕ) (before : List Action) → ExampleOfMarks text before }
     ensures paths { ExampleOfPaths }

@@ -1,6 +1,11 @@
-//! Laws over what is asked of files. Each is the contract of a function that does nothing.
+//! Laws over what is asked of files, and over a count of them. Each is the contract of a function
+//! that does nothing.
+ghost use Rattle.std.specs.Prelude.{List};
+ghost use Rattle.reown_plan.specs.PlanData.{PlanRecord};
+ghost use Rattle.reown_files.specs.Calls.{Called};
+ghost use Rattle.reown_files.specs.CountLaws.{FilesAreAllCounted};
 ghost use Rattle.reown_files.specs.FileLaws.{OwnersAreLookedAt, FilesAreGivenBetweenLooks};
-ghost use Rattle.reown_files.specs.FileLaws.{NamesAreAllCounted};
+ghost use Rattle.reown_files.specs.FileLaws.{NamesAreAllCounted, NamesAreChecked};
 
 /// Nothing is done with a file before a look has told it at the owner that is named. One that is
 /// given another owner is told before and after that, as one file at its old and its new owner.
@@ -9,7 +14,17 @@ pub fn files_are_looked_at()
     ensures given { FilesAreGivenBetweenLooks }
 {}
 
-/// All names of a file are in the plan exactly where as many were counted as it has.
+/// All names of a file are in the plan exactly where as many were counted as it has; and that is
+/// looked at for each path by which a name of a file with several was counted.
 pub fn names_are_all_counted()
-    ensures { NamesAreAllCounted }
+    ensures counted { NamesAreAllCounted }
+    ensures checked { NamesAreChecked }
+{}
+
+/// A count looks at the file of each record once, in order, and asks for nothing else. Each file is
+/// one of those with their old owner, with their new one, with another and not there. A count that
+/// stops tells the record whose file could not be looked at, after the files of those before it.
+pub fn files_are_all_counted()
+    ensures { (records : List PlanRecord) (old new : List Called)
+        → FilesAreAllCounted records old new }
 {}

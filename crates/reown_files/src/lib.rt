@@ -36,7 +36,7 @@ pub use by_example::{
 };
 pub use counting::{OwnerCounts, count_owners};
 pub use disk::Disk;
-pub use file_laws::{files_are_looked_at, names_are_all_counted};
+pub use file_laws::{files_are_all_counted, files_are_looked_at, names_are_all_counted};
 pub use lawful::{
     changes_are_foreseen, marks_come_last, modes_are_set_at_once, notes_are_of_one_plan,
 };

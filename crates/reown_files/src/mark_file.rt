@@ -4,7 +4,7 @@ ghost use Rattle.std.specs.Prelude.{IfOk, IfErr, OnOk, OnErr};
 ghost use Rattle.std.specs.String.{string_bytes};
 ghost use Rattle.reown_files.specs.declared.answers.Trouble.TheVariants.{Memory, NotMark};
 ghost use Rattle.reown_files.specs.Actions.{FileRead, TextPut, NameSynced};
-ghost use Rattle.reown_files.specs.Actions.{IsMarkRead, IsReadAtMost};
+ghost use Rattle.reown_files.specs.Actions.{IsMarkRead, IsReadAtMost, new_beside};
 ghost use Rattle.reown_files.specs.ActionsCode.{text_in};
 ghost use Rattle.reown_files.specs.MarkText as spec;
 
@@ -141,7 +141,8 @@ impl<'w> MarkFile<'w> {
     /// Puts this plan's there, whole or not at all.
     pub fn put(&self, plan: &PlanMark, log: &mut ActionLog) -> Result<(), Trouble>
         ensures put { OnOk result (log.new.actions
-            ≡ TextPut (string_bytes self.now.path) (spec.mark_text plan.now) ∷ log.old.actions) }
+            ≡ TextPut (new_beside (string_bytes self.now.path)) (string_bytes self.now.path)
+            (spec.mark_text plan.now) ∷ log.old.actions) }
         ensures undone { OnErr result (log.new.actions ≡ log.old.actions) }
     {
         let text = mark_text(self.rt.alloc(), plan)?;

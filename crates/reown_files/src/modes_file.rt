@@ -5,21 +5,20 @@
 ghost use Rattle.std.specs.Prelude.{◌≡◌, ◌<◌, ◌≤◌, ◌+◌, ◌++◌, ◌↔◌, ◌⊎◌, ◌||◌};
 ghost use Rattle.std.specs.Prelude.{not, [], ◌∷◌, if◌then◌else◌, List, ℕ, Option, Some, None};
 ghost use Rattle.std.specs.Prelude.{IfOk, IfErr, IfSome, IsTrue, OnOk, OnErr, Ok, Err};
-ghost use Rattle.std.specs.Prelude.{is_some, is_ok, false, true, length, take};
+ghost use Rattle.std.specs.Prelude.{is_ok, false, true, length, take};
 ghost use Rattle.std.specs.Option.{option_copied};
 ghost use Rattle.std.specs.String.{string_bytes};
 ghost use Rattle.reown_files.specs.declared.answers.Trouble.TheVariants.{NotModes, Memory};
 ghost use Rattle.reown_files.specs.declared.answers.Trouble.TheVariants.{TooManyModes};
-ghost use Rattle.reown_files.specs.Actions.{FileRead, FileRemoved, modes_put, modes_read};
+ghost use Rattle.reown_files.specs.Actions.{FileRead, FileRemoved, modes_put};
 ghost use Rattle.reown_files.specs.Actions.{IsReadAtMost, IsModesReadAtMost, IsModesPutAtMost};
 ghost use Rattle.reown_files.specs.Looks as looks;
 ghost use Rattle.reown_files.specs.OneFile.{HasLost};
 ghost use Rattle.idtext.specs.Escapes.{unescaped, has_bad_escape};
-ghost use Rattle.idtext.specs.Pieces.{lines as lines_of_text};
 ghost use Rattle.reown_files.specs.MarkText as spec;
 ghost use Rattle.reown_files.specs.ModesNoted.{entry_of};
 ghost use Rattle.reown_files.specs.RootData.{modes_beside};
-ghost use Rattle.reown_files.specs.Trees.{mode_noted_for, HasModesOf, HasRead, IsTold, AreRead};
+ghost use Rattle.reown_files.specs.Trees.{mode_noted_for, HasModesOf, IsTold, AreRead};
 
 use crate::Trouble;
 use crate::actions::ActionLog;

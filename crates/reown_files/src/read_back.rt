@@ -1,5 +1,10 @@
 //! Laws over what this crate writes and reads. Each is the contract of a function that does
 //! nothing.
+ghost use Rattle.std.specs.Prelude.{ℕ, List};
+ghost use Rattle.reown_plan.specs.declared.mark.PlanMark.{PlanMark};
+ghost use Rattle.reown_files.specs.RootData.{RootData};
+ghost use Rattle.reown_files.specs.Laws.{MarksAreMetAsSeen, ModesOfNoneAreLeft, ModesGoByTheMark};
+ghost use Rattle.reown_files.specs.Laws.{ModesAreToldOfTheirPlan};
 ghost use Rattle.reown_files.specs.Laws.{MarksAreReadBack, ModesAreReadBack, ModesAreOfOnePlan};
 ghost use Rattle.reown_files.specs.Laws.{MarksEndOnePlan, ModesAreJudged, CutModesAreRefused};
 ghost use Rattle.reown_files.specs.Laws.{MarksPutAreSeen, ModesPutAreRead, LinesAreOfMetFiles};
@@ -24,14 +29,21 @@ pub fn modes_are_read_back()
 {}
 
 /// What is put into the two files is what is read there. Where the file of the mark has the text
-/// that was put for a plan, the mark is seen as that plan's and no other's. Where that of the modes
-/// has the text that was put, each file has the mode that was written down for it last; and those
-/// that are written down are of the files that were met at another owner than their new one, in
-/// their order.
+/// that was put for a plan, the mark is seen as that plan's and no other's, and met as it is seen.
+/// Where that of the modes has the text that was put, each file has the mode that was written down
+/// for it last, and it is told of that plan alone; and those that are written down are of the files
+/// that were met at another owner than their new one, in their order. Where there is no file of the
+/// modes, or one that another plan has put which has ended, no run of the plan is told and nothing
+/// is taken. The file is put in a run of a plan whose mark was not there, and else removed.
 pub fn files_that_were_put_are_read()
     ensures marks { MarksPutAreSeen }
+    ensures met { MarksAreMetAsSeen }
     ensures modes { ModesPutAreRead }
     ensures lines { LinesAreOfMetFiles }
+    ensures left { ModesOfNoneAreLeft }
+    ensures told { (plan : PlanMark) (path : List ℕ) (root : RootData)
+        → ModesAreToldOfTheirPlan plan path root }
+    ensures by_mark { ModesGoByTheMark }
 {}
 
 /// The two files by example, byte by byte: a mark with its digest as `sha256sum` prints it, and

@@ -8,6 +8,7 @@ ghost use Rattle.reown_files.specs.Calls.{Looked, Met, CheckedLinks, Saw, NotSee
 ghost use Rattle.reown_files.specs.Calls.{Kept, LostMode, MetMark, MarkNotSeen, Settled, SawMark};
 ghost use Rattle.reown_files.specs.Calls.{PutMark, ReadModes, PutModes, KeptMark};
 ghost use Rattle.reown_files.specs.Actions.{FileRead, TextPut, RootSettled, mark_kept, modes_put};
+ghost use Rattle.reown_files.specs.Actions.{new_beside};
 ghost use Rattle.reown_files.specs.Actions.{IsMarkRead, IsMarkMet, IsReadAtMost};
 ghost use Rattle.reown_files.specs.Actions.{IsMarkSyncedAtMost, IsModesReadAtMost};
 ghost use Rattle.reown_files.specs.Actions.{IsModesPutAtMost};
@@ -406,7 +407,8 @@ impl<'w> Disk for Root<'w> {
     fn put_mark(&mut self, plan: &PlanMark) -> Result<(), Trouble>
         ensures noted { self.new.calls ≡ PutMark plan.now (is_ok result) ∷ self.old.calls }
         ensures put { OnOk result (self.new.actions
-            ≡ TextPut self.old.mark_path (mark_text plan.now) ∷ self.old.actions) }
+            ≡ TextPut (new_beside self.old.mark_path) self.old.mark_path (mark_text plan.now)
+            ∷ self.old.actions) }
         ensures undone { OnErr result (self.new.actions ≡ self.old.actions) }
         ensures rest { self.new ≡ record self.old {
           is_put = self.old.is_put || is_ok result;

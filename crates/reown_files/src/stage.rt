@@ -1,7 +1,9 @@
 //! How far a plan is carried out.
-ghost use Rattle.std.specs.Prelude.{◌≡◌, ◌||◌};
+ghost use Rattle.std.specs.Prelude.{◌≡◌, ◌||◌, ℕ};
+ghost use Rattle.reown_plan.specs.PlanData.{PlanRecord};
 ghost use Rattle.reown_files.specs.Laws.{OwnersGoByStage, FilesAreJudged, ChangedPlansAreBegun};
 ghost use Rattle.reown_files.specs.Laws.{StagesAreTold, FirstRunsBeginAtOldOwners};
+ghost use Rattle.reown_files.specs.Laws.{FaultsAreNamed};
 ghost use Rattle.reown_files.specs.Stages.{stage_of};
 
 /// How far a plan is carried out, as its mark and the modes that a run of it wrote down tell.
@@ -32,12 +34,13 @@ impl Stage {
 }
 
 /// Which owners the files of a plan may have at each stage of it, and what tells the stage; that a
-/// file is fit or has one fault; that a first run begins with files at their old owners alone; and
-/// that no file is given an owner before modes are written down, by which a plan is known to have
-/// been begun. It is a law, and does nothing.
+/// file is fit or has one fault, and which that is; that a first run begins with files at their old
+/// owners alone; and that no file is given an owner before modes are written down, by which a plan
+/// is known to have been begun. It is a law, and does nothing.
 pub fn owners_go_by_stage()
     ensures owners { OwnersGoByStage }
     ensures judged { FilesAreJudged }
+    ensures named { (i : ℕ) (r : PlanRecord) → FaultsAreNamed i r }
     ensures begun { ChangedPlansAreBegun }
     ensures told { StagesAreTold }
     ensures first { FirstRunsBeginAtOldOwners }

@@ -2,6 +2,7 @@
 ghost use Rattle.std.specs.Prelude.{◌≡◌, ◌∷◌, ◌++◌, IfOk, OnOk, OnErr, is_none};
 ghost use Rattle.std.specs.String.{string_bytes};
 ghost use Rattle.reown_files.specs.Actions.{FileRead, TextPut, NameSynced, FileRemoved};
+ghost use Rattle.reown_files.specs.Actions.{new_beside};
 ghost use Rattle.reown_files.specs.ActionsCode.{text_in};
 ghost use Rattle.reown_files.specs.RootData.{IsPathFrom};
 
@@ -72,12 +73,13 @@ fn write_over(
     text: &[u8],
     log: &mut ActionLog,
 ) -> io::Result<()>
-    ensures put { OnOk result (log.new.actions ≡ TextPut path.now text.now ∷ log.old.actions) }
+    ensures put { OnOk result
+        (log.new.actions ≡ TextPut new.now path.now text.now ∷ log.old.actions) }
     ensures undone { OnErr result (log.new.actions ≡ log.old.actions) }
 {
     write(rt, new, text)?;
     fs::rename(rt, new, path)?;
-    log.note(&Action::TextPut(path.as_bytes(), text));
+    log.note(&Action::TextPut(new.as_bytes(), path.as_bytes(), text));
     Ok(())
 }
 
@@ -110,7 +112,8 @@ pub fn put_whole(
     text: &[u8],
     log: &mut ActionLog,
 ) -> Result<(), Trouble>
-    ensures put { OnOk result (log.new.actions ≡ TextPut path.now text.now ∷ log.old.actions) }
+    ensures put { OnOk result (log.new.actions
+        ≡ TextPut (new_beside path.now) path.now text.now ∷ log.old.actions) }
     ensures undone { OnErr result (log.new.actions ≡ log.old.actions) }
 {
     let new = path_with(rt, path, NEW)?;

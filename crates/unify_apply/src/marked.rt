@@ -35,7 +35,8 @@ fn marks_other(alloc: Global, plan: &PlanMark, text: &[u8]) -> Result<bool, Plan
 // The mark of the plan that takes this one back.
 #[tactic(auto, using(crate::proofs::ReverseMark::mark_back))]
 fn mark_of_reverse(alloc: Global, plan: &Plan<'_>) -> Result<PlanMark, PlanFault>
-    ensures { IsLawful plan.now → IfOk result (λ mark. mark ≡ mark_of (reversed plan.now)) }
+    ensures mark { IsLawful plan.now → IfOk result (λ mark. mark ≡ mark_of (reversed plan.now)) }
+    ensures refused { IsLawful plan.now → IfErr result (λ fault. fault ≡ Memory) }
 {
     let text = reversed_text(alloc, plan)?;
     let back = Plan::read(alloc, &text)?;
@@ -45,8 +46,9 @@ fn mark_of_reverse(alloc: Global, plan: &Plan<'_>) -> Result<PlanMark, PlanFault
 // Whether a text is the mark of a plan that is neither this one nor its reverse. The reverse is
 // made only where the text is the mark of another plan.
 fn marks_third(alloc: Global, plan: &Plan<'_>, text: &[u8]) -> Result<bool, PlanFault>
-    ensures { IsLawful plan.now
+    ensures third { IsLawful plan.now
         → IfOk result (λ is_third. is_third ≡ is_of_third plan.now text.now) }
+    ensures refused { IsLawful plan.now → IfErr result (λ fault. fault ≡ Memory) }
 {
     if !marks_other(alloc, &plan.mark(), text)? {
         return Ok(false);
@@ -60,6 +62,7 @@ fn marks_third(alloc: Global, plan: &Plan<'_>, text: &[u8]) -> Result<bool, Plan
 fn has_third_mark(alloc: Global, plan: &Plan<'_>, root: &mut Root<'_>) -> Result<bool, PlanFault>
     ensures seen { IsLawful plan.now → IfOk result (λ is_third. IsThirdSeen plan.now is_third
         root.old.mark_path root.old.actions root.new.actions) }
+    ensures refused { IsLawful plan.now → IfErr result (λ fault. fault ≡ Memory) }
     ensures at_most { IsReadAtMost root.old.mark_path root.old.actions root.new.actions }
     ensures rest { root.new ≡ record root.old { actions = root.new.actions } }
 {
@@ -82,8 +85,10 @@ fn tell_third(rt: &HostRuntime, mark: &str) -> Result<(), FileFault>
 
 /// Warns where the file of the mark is the mark of a plan that is neither this one nor its reverse:
 /// what that plan has given is another's by the old passwd. What else is wrong with the file is
-/// told where the plan is opened. The file is read at most, and not where nothing is warned of.
+/// told where the plan is opened. The file is read at most, and not where nothing is warned of. It
+/// fails for want of memory alone.
 pub fn warn_of_mark(run: Run<'_>, plan: &Plan<'_>, root: &mut Root<'_>) -> Result<(), FileFault>
+    ensures refused { IsLawful plan.now → IfErr result (λ fault. fault ≡ file_faults.Memory) }
     ensures at_most { IsReadAtMost root.old.mark_path root.old.actions root.new.actions }
     ensures quiet { run.entry.quiet ≡ true → root.new ≡ root.old }
     ensures rest { root.new ≡ record root.old { actions = root.new.actions } }
