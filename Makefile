@@ -1,19 +1,19 @@
 # unify: one numbering for the accounts of many hosts.
-#   make demo              merges the two hosts of examples/office, and shows what was written: two to three minutes, compiled
-#                          with run-time checks and not proved
+#   make demo              merges the two hosts of examples/office with the program compiled with run-time checks and not proved,
+#                          and shows what was written: two to three minutes
 #   make try ARGS='merge OUT HOST..'   any other command, in the same way
 #   make program           proves the program and links it, which takes a while; make demo-proved runs the demo with it
 #   make demo-apply        as root, after make program: makes trees of two hosts, merges, carries the plans out, verifies and
 #                          takes them back
 #   make install PREFIX=.. puts the proved program into PREFIX/bin, the documents and keep files into PREFIX/share/doc/unify
 #   make quick             for daily work: formats and proves the crates that changed, and runs the worked examples unproved
-#   make test              the first half of the gate: looks at the documents' names, proves every crate, tries the must-fail
-#                          edits, runs the tests and the program, and ends with make compare
+#   make test              the gate: looks at the documents' names, proves every crate, tries the must-fail edits, runs the tests
+#                          and the program, tries all wrong bodies beside that, and ends with make compare
 #   make compare           compares what the program that was built last makes of examples/office, examples/mixed and
-#                          examples/worked, what it answers to other words and what it leaves in OUT, with what is committed
-#   make wrong-bodies      the second half: tries all other wrong bodies; CRATE='idtext ..' those of some crates
-#   make refused           refuses one growth of memory after another, to the program, by bundle and with words, and to the
-#                          readers' tests
+#                          examples/worked, what it answers to other arguments and what it leaves in OUT, with what is committed
+#   make wrong-bodies      tries the wrong bodies once more; CRATE='idtext ..' those of some crates
+#   make refused           refuses one growth of memory after another, to the program, with bundles and with arguments, and to
+#                          the readers' tests
 #   make clean             removes what was built
 
 PREFIX ?= /usr/local
@@ -29,8 +29,9 @@ HOSTS = a=$(STORED)/a b=$(STORED)/b
 TABLES = $(STORED)/b/passwd $(STORED)/b/group
 REFUSED = build/refused
 
-# How many proofs go side by side. With 18 GB rt chooses, and gives a proof that all others wait for the processors that are idle.
-# With less it would let a large proof wait for memory that none needs: then as many as there are processors, at 3 GB each.
+# How many proofs go side by side. With 18 GB of free memory rt chooses, and gives the processors that are idle to a proof that all
+# others wait for. With less it would let a large proof wait for memory that none needs: then as many as there are processors, of 3
+# GB each.
 LANES ?= $(shell awk -v most=$$(nproc) '/^MemAvailable/ { fit = int($$2 / 3000000); \
 	if ($$2 < 18000000) print fit < 1 ? 1 : fit < most ? fit : most }' /proc/meminfo)
 # What make quick calls changed: whatever differs from this commit.
@@ -57,12 +58,10 @@ demo-apply:
 
 test:
 	@gate/documents.py
-	RT_JOBS=$(LANES) rt ci
-	@gate/wrong_bodies.py --passed
+	@gate/test_wrong_bodies.py & RT_JOBS=$(LANES) gate/wrong_bodies.py --beside-ci && wait $$!
 	@$(MAKE) --no-print-directory compare
 
 wrong-bodies:
-	@gate/test_wrong_bodies.py
 	@RT_JOBS=$(LANES) gate/wrong_bodies.py $(CRATE)
 
 quick:

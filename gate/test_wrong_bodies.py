@@ -1,5 +1,6 @@
 #!/usr/bin/env python3
 """Tries wrong_bodies.py on a small crate: what changes nothing must be told as let through, also beside what is refused."""
+import os
 import pathlib
 import subprocess
 import sys
@@ -113,16 +114,29 @@ def main():
             (crate / f"wrong-bodies/{name}.edit").write_text(f"file: src/{file}.rt\nold: {old}\nnew: {new}\n")
         (crate / "wrong-bodies/turned.edit").write_text(TURNED)
         (crate / "wrong-bodies/unlawful.edit").write_text(UNLAWFUL)
+        # As the gate calls it; then alone, over what rt ci has passed; and where no time is left.
         script = pathlib.Path(__file__).resolve().with_name("wrong_bodies.py")
-        ran = subprocess.run([script], cwd=top, stdin=subprocess.DEVNULL, capture_output=True, text=True)
-    told = ran.stdout.splitlines()
+        how = {"cwd": top, "stdin": subprocess.DEVNULL, "capture_output": True, "text": True}
+        for words in [[script, "--beside-ci"], [script, "small"]]:
+            see_told(subprocess.run(words, **how))
+        late = subprocess.run([script], env=os.environ | {"WRONG_BODY_MINUTES": "0"}, **how)
+        see(late, late.stdout.endswith("\n0 refused, 1 let through, 10 not tried\n"))
+    print("wrong_bodies.py tells a wrong body that is let through")
+
+
+def see_told(ran):
+    """Ends the run where something else was told of the edits."""
+    told = [line for line in ran.stdout.splitlines() if line.startswith("small/")]
     wanted = sorted([*(f"small/{name}: {what}" for name, *_, what in EDITS), "small/turned: refused, ", "small/unlawful: refused, "])
     through = sorted(f"small/{name}" for name, *_, what in EDITS if not what.startswith("refused"))
     ends = [f"not refused: {' '.join(through)}", "7 refused, 4 let through"]
-    is_told = len(told) == len(wanted) + 2 and all(line.startswith(it) for line, it in zip(sorted(told[:-2]), wanted))
-    if not is_told or told[-2:] != ends or ran.returncode != 1:
+    is_told = len(told) == len(wanted) and all(line.startswith(it) for line, it in zip(sorted(told), wanted))
+    see(ran, is_told and ran.stdout.splitlines()[-2:] == ends)
+
+
+def see(ran, is_well):
+    if not is_well or ran.returncode != 1:
         sys.exit(f"wrong_bodies.py, tried on a small crate, ended with {ran.returncode}:\n{ran.stdout}{ran.stderr}")
-    print("wrong_bodies.py tells a wrong body that is let through")
 
 
 if __name__ == "__main__":

@@ -1,8 +1,8 @@
 #!/usr/bin/env python3
 """Tries the wrong bodies of crates/NAME/wrong-bodies: the prover must refuse each one, in the function that it is in.
 
-    gate/wrong_bodies.py [NAME..]
-    gate/wrong_bodies.py --passed     notes that `rt ci` has just passed these sources
+    gate/wrong_bodies.py --beside-ci  runs `rt ci`, and tries the wrong bodies of each crate once that has proved it
+    gate/wrong_bodies.py [NAME..]     tries those of these crates, or of all
 
 An edit is a file as rt's must-fail edits are: lines `file: PATH` below the crate, `old: TEXT`, which stands there once, and
 `new: TEXT`. A line `why: TEXT` is for the reader: the promise of docs/promises.md that it breaks, or some with commas between
@@ -20,20 +20,36 @@ where an edit turns a definition with its body, so that a law of the definition 
 names the law, and that alone is checked, with its lemmas.
 
 All is done in a copy of the repository's crates. A crate that `rt ci` has passed on this machine is taken as proved, by the
-record of rt where it keeps one and else by build/passed and the libraries that it left; any other is proved first. Crates are
-tried side by side, RT_JOBS at a time. The last line is `N refused, M let through`; the status is 1 if M is not 0.
+record of rt where it keeps one and else by build/passed and the libraries that it left; any other is proved first. Edits are tried
+side by side, one a processor, those of the crate that was proved last before others; beside `rt ci` at the lowest priority, with
+what it leaves idle. No check begins later than WRONG_BODY_MINUTES after the start, where that is set: edits that are left then are
+named. The last line is `N refused, M let through`, with `, K not tried` if there are any; the status is 1 if M is not 0, if there
+was time for those K, or if a crate is not proved.
 """
 import importlib.machinery
 import importlib.util
 import os
 import pathlib
+import queue
 import re
 import shutil
+import subprocess
 import sys
 import tempfile
+import threading
+import time
 from typing import NamedTuple
 
 FOLDER = "wrong-bodies"
+# How many of the edits that are tried alone go one after another: the later take from what the earlier kept.
+SHARE = 8
+# What has to be free where a check begins, in bytes, or a third of what is free at first, if that is less: twice the most that one
+# was seen to take.
+ROOM = 6_000_000_000
+# The variable of the environment that says after how many minutes no further check begins.
+MINUTES = "WRONG_BODY_MINUTES"
+# The line by which `rt ci` tells that it has proved a crate.
+PROVED = re.compile(r"rt: (\w+) proved\n")
 # What `rt ci` passed last: a line for each crate, its name and the sum of all that it is made from.
 PASSED = "build/passed"
 # A goal that a check left open, told at the source that it comes from, or at the answer that does not prove it. An answer that
@@ -130,6 +146,10 @@ class Unreadable(Exception):
     """An edit that cannot be made."""
 
 
+class TimeIsUp(Exception):
+    """No further check is to begin."""
+
+
 def owner_of(lines, first):
     """What the folders of answers call the impl or the trait around a function, and the type whose own impl it is, if any."""
     for line in reversed(lines[:first]):
@@ -214,9 +234,13 @@ class Left:
         return f"{crate.name} {crate.stamp()}"
 
     def give(self, crate, _tests, key):
-        """Puts the library of a crate that was passed into this copy of it. One with a stamp was left by another command."""
+        """Puts the library of a crate that was passed into this copy of it."""
+        return key in self.keys and self.give_new(crate)
+
+    def give_new(self, crate):
+        """The same of a crate that a run that goes on has passed. A library with a stamp was left by another command."""
         left = self.top / "crates" / crate.name / "out/rlib"
-        if key not in self.keys or (left / "stamp").exists() or not (left / f"{crate.name}.rlib").is_dir():
+        if (left / "stamp").exists() or not (left / f"{crate.name}.rlib").is_dir():
             return False
         shutil.copytree(left, f"{crate.folder}/out/rlib", dirs_exist_ok=True)
         return True
@@ -267,6 +291,34 @@ class Crate:
             return function
         raise Unreadable(f"{path} has no function {name}")
 
+    def prove(self, jobs):
+        """Takes the library that rt ci proved of the crate on this machine, or else proves it, from nothing as rt ci does."""
+        pathlib.Path(self.folder, "out").mkdir(exist_ok=True)
+        with tempfile.TemporaryFile("w+", errors="replace") as self.crate.out:
+            is_proved = self.passed.give(self.crate, False, self.passed.key(self.crate))
+            is_proved = is_proved or self.crate.ci(["--jobs", str(jobs)], False) == 0
+            if is_proved:
+                self.passed.is_built(self.crate)
+            else:
+                self.crate.out.seek(0)
+                print(f"{self.name} is not proved as it stands:\n{self.crate.out.read()}", end="", flush=True)
+        return is_proved
+
+    def shares(self):
+        """The edits in parts that can be tried side by side: those for rounds, and some at a time of those that are tried alone."""
+        together, alone = ([it for it in self.edits if it.is_apart == apart] for apart in (False, True))
+        parts = [together, *(alone[at : at + SHARE] for at in range(0, len(alone), SHARE))]
+        return [Share(self, it) for it in parts if it]
+
+
+class Share:
+    """Edits of a crate that are tried one after another, and what is told of them."""
+
+    room, deadline = ROOM, float("inf")
+
+    def __init__(self, crate, edits):
+        self.crate, self.edits, self.told = crate, edits, []
+
     def round_of(self, edits, refused):
         """The first edits that can be made at once, since they touch different functions, and the texts that they make. In every
         other function what was refused last stays made: a check takes that from an earlier one, and proves no function again."""
@@ -274,17 +326,27 @@ class Crate:
         for edit in (it for it in [*edits, *reversed(refused)] if it.functions):
             if not edit.functions & taken:
                 try:
-                    texts = made(edit.changes, texts, self.text_of)
+                    texts = made(edit.changes, texts, self.crate.text_of)
                 except Unreadable:
                     continue
                 taken |= edit.functions
                 chosen += [edit] * (edit not in refused)
-        return (chosen, texts) if chosen else (edits[:1], made(edits[0].changes, {}, self.text_of))
+        return (chosen, texts) if chosen else (edits[:1], made(edits[0].changes, {}, self.crate.text_of))
 
     def check(self, edits, texts, kept):
-        """Checks the functions that the edits touch, with the texts that they make, over what earlier checks of them kept."""
+        """Checks the functions that the edits touch, with the texts that they make, over what earlier checks of them kept. It waits
+        until memory is free, and is made once more where it was killed, most likely for want of that."""
+        if time.monotonic() > self.deadline:
+            raise TimeIsUp
+        crate = self.crate
         only = [f"--only={it.name}" for edit in edits for it in sorted(edit.functions)]
-        said = self.rt.checked(self.crate, texts, ["--jobs", "1", *only], kept).stdout
+        for _ in range(2):
+            while crate.rt.free() < self.room:
+                time.sleep(5)
+            ran = crate.rt.checked(crate.crate, texts, ["--jobs", "1", *only], kept)
+            if ran.returncode >= 0:
+                break
+        said = ran.stdout
         goals, answers, errors = (
             [Place(path, int(line), goal) for path, line, goal in it.findall(said)] for it in (OPEN, ANSWER, ERROR)
         )
@@ -309,7 +371,7 @@ class Crate:
         return doubtful
 
     def tried_alone(self, edit, kept):
-        told = self.check([edit], made(edit.changes, {}, self.text_of), kept)
+        told = self.check([edit], made(edit.changes, {}, self.crate.text_of), kept)
         if told.errors:
             self.told.append((edit.name, f"DOES NOT COMPILE: {told.errors[0].path}:{told.errors[0].line}"))
         elif not told.has_ended:
@@ -323,51 +385,91 @@ class Crate:
             self.told.append((edit.name, f"refused, {place.path}:{place.line} {place.goal}".rstrip()))
         return place is not None
 
-    def prove(self, given, jobs):
-        """Takes the library that rt ci proved of the crate on this machine, or else proves it, from nothing as rt ci does."""
-        if not all(given[it.name, "proof"] for it in self.crate.below()):
-            return False
-        pathlib.Path(self.folder, "out").mkdir(exist_ok=True)
-        with tempfile.TemporaryFile("w+", errors="replace") as self.crate.out:
-            is_proved = self.passed.give(self.crate, False, self.passed.key(self.crate))
-            is_proved = is_proved or self.crate.ci(["--jobs", str(jobs)], False) == 0
-            if is_proved:
-                self.passed.is_built(self.crate)
-            else:
-                self.crate.out.seek(0)
-                print(f"{self.name} is not proved as it stands:\n{self.crate.out.read()}", end="", flush=True)
-        return is_proved
-
-    def try_edits(self, given, _jobs):
-        """Tries all edits of the crate. Where the try fails (a full disk, say) none is told as refused, and the other crates go on."""
-        if not given[self.name, "proof"]:
-            return
-        unmade = list(self.told)
+    def try_edits(self):
+        """Tries the edits while there is time. Where the try fails (a full disk, say) none is told as refused, and the others go on."""
         try:
             with tempfile.TemporaryDirectory(prefix="wrong-bodies-") as kept:
                 for edit in self.tried_together(kept):
                     self.tried_alone(edit, kept)
+        except TimeIsUp:
+            pass
         except Exception as error:
-            self.told = unmade + [(it.name, f"NOT TRIED: {type(error).__name__}: {error}") for it in self.edits]
-        print("".join(f"{self.name}/{name}: {what}\n" for name, what in sorted(self.told)), end="", flush=True)
+            self.told = [(it.name, f"NOT TRIED: {type(error).__name__}: {error}") for it in self.edits]
+        self.crate.told += self.told
+        tell(self.crate.name, self.told)
 
 
-def tasks_of(crates, names):
-    """What there is to do, as rt's in_lanes takes it: each proof waits for those below it, and the edits for their crate's."""
+def tell(name, told):
+    print("".join(f"{name}/{edit}: {what}\n" for edit, what in sorted(told)), end="", flush=True)
+
+
+def proofs_of(crates, names):
+    """The proofs of the crates of these names and of those below, as rt's in_lanes takes tasks: each waits for those below it."""
     tasks = {}
     wanted = {it.name for crate in crates if crate.name in names for it in [*crate.crate.below(), crate]}
-    for it in crates:
-        if it.name in wanted:
-            lines, memory = it.crate.count(rb"\n"), it.rt.need(it.crate)
-            waits = [(below.name, "proof") for below in it.crate.below()]
-            tasks[it.name, "proof"] = waits, lines, memory, it.prove
-            if it.name in names:
-                tasks[it.name, "edits"] = [(it.name, "proof")], lines, memory, it.try_edits
+    for it in (it for it in crates if it.name in wanted):
+        below = [(below.name, "proof") for below in it.crate.below()]
+        run = lambda given, jobs, it=it, below=below: all(given[key] for key in below) and it.prove(jobs)
+        tasks[it.name, "proof"] = below, it.crate.count(rb"\n"), it.rt.need(it.crate), run
     return tasks
 
 
-def tried(rt, names, top):
-    """Tries the edits of the crates of these names, or of all, and returns the status. What was passed was passed at the top."""
+class Lanes:
+    """Tries shares side by side, one a processor: those that came last first. It ends once nothing is to come and none is left."""
+
+    def __init__(self, rt):
+        self.left, self.is_all = queue.LifoQueue(), threading.Event()
+        self.lanes = [threading.Thread(target=self.work) for _ in range(rt.processors())]
+
+    def __enter__(self):
+        for lane in self.lanes:
+            lane.start()
+        return self
+
+    def __exit__(self, *_):
+        self.is_all.set()
+        for lane in self.lanes:
+            lane.join()
+
+    def add(self, crate):
+        for share in reversed(crate.shares()):
+            self.left.put(share)
+
+    def work(self):
+        while not (self.is_all.is_set() and self.left.empty()):
+            try:
+                self.left.get(timeout=1).try_edits()
+            except queue.Empty:
+                pass
+
+
+def shares_after_proofs(rt, crates, names):
+    """Proves the crates of these names, and tries their edits. Returns whether all are proved."""
+    given = rt.in_lanes(proofs_of(crates, names))
+    with Lanes(rt) as lanes:
+        for crate in (it for it in crates if it.name in names and given[it.name, "proof"]):
+            lanes.add(crate)
+    return all(given[name, "proof"] for name in names)
+
+
+def shares_beside_ci(rt, crates, top):
+    """Runs `rt ci` at the top, and tries the edits of each crate that it tells as proved. Returns whether it passed."""
+    by_name = {it.name: it for it in crates}
+    how = {"stdin": subprocess.DEVNULL, "stdout": subprocess.PIPE, "stderr": subprocess.STDOUT, "text": True, "errors": "replace"}
+    with Lanes(rt) as lanes, subprocess.Popen(["rt", "ci"], cwd=top, **how) as ci:
+        os.nice(19)
+        for line in ci.stdout:
+            print(line, end="", flush=True)
+            if found := PROVED.fullmatch(line):
+                crate = by_name[found[1]]
+                if crate.passed.give_new(crate.crate):
+                    lanes.add(crate)
+    return ci.returncode == 0
+
+
+def tried(rt, names, top, is_beside_ci):
+    """Tries the edits of the crates of these names, or of all. Returns whether all is proved, and whether each edit was refused. What
+    was passed was passed at the top."""
     # As under rt ci: the crates above a library load its statements.
     rt.Crate.cuts_libraries = True
     rt.Crate.allowed = rt.handles_of(os.getcwd())
@@ -379,31 +481,37 @@ def tried(rt, names, top):
         every = rt.crates_of(os.getcwd(), os.getcwd())
         passed = Left(top)
     rt.rtlib.guarded()
+    Share.room = min(ROOM, rt.free() // 3)
+    Share.deadline = time.monotonic() + 60 * float(os.environ.get(MINUTES) or "inf")
     crates = [Crate(rt, it, passed) for it in every]
     have = [it.name for it in crates if it.edits or it.told]
     if unknown := set(names) - set(have):
         sys.exit(f"no wrong bodies: {' '.join(sorted(unknown))}")
-    names = names or have
-    given = rt.in_lanes(tasks_of(crates, names))
-    told = [what.startswith("refused") for it in crates if it.name in names for _, what in it.told]
-    refused = sum(told)
-    not_refused = [f"{it.name}/{name}" for it in crates for name, what in it.told if not what.startswith("refused")]
-    if not_refused:
-        print(f"not refused: {' '.join(sorted(not_refused))}")
-    print(f"{refused} refused, {len(told) - refused} let through")
-    is_whole = all(given[name, "proof"] for name in names)
-    return 0 if is_whole and refused == len(told) else 1
+    for it in crates:
+        tell(it.name, it.told if it.name in (names or have) else [])
+    is_proved = shares_beside_ci(rt, crates, top) if is_beside_ci else shares_after_proofs(rt, crates, names or have)
+    return is_proved, told_in_all([it for it in crates if it.name in (names or have)])
 
 
-def note_passed(rt):
-    """Notes the crates as they are, all of which `rt ci` has passed, where rt keeps no record of that."""
-    if hasattr(rt, "Kept"):
-        return 0
-    left = Left(os.getcwd())
-    os.makedirs(os.path.dirname(PASSED), exist_ok=True)
-    keys = "".join(f"{left.key(it)}\n" for it in rt.rtlib.crates_below(os.getcwd()))
-    pathlib.Path(PASSED).write_text(keys, encoding="utf-8")
-    return 0
+def told_in_all(crates):
+    """Tells how many edits were refused, which were not, and which were not tried. Returns whether all were refused but for those
+    that were not tried since the time was up."""
+    told = {f"{it.name}/{name}": what for it in crates for name, what in it.told}
+    late = sorted({f"{it.name}/{edit.name}" for it in crates for edit in it.edits} - set(told))
+    not_refused = sorted(name for name, what in told.items() if not what.startswith("refused"))
+    for what, names in ("not tried", late), ("not refused", not_refused):
+        if names:
+            print(f"{what}: {' '.join(names)}")
+    end = f", {len(late)} not tried" if late else ""
+    print(f"{len(told) - len(not_refused)} refused, {len(not_refused)} let through{end}")
+    return not not_refused and (not late or time.monotonic() > Share.deadline)
+
+
+def note_passed(rt, top):
+    """Notes the crates as they are, all of which `rt ci` has passed."""
+    crates = rt.rtlib.crates_below(top)
+    pathlib.Path(top, PASSED).parent.mkdir(exist_ok=True)
+    pathlib.Path(top, PASSED).write_text("".join(f"{Left(top).key(it)}\n" for it in crates), encoding="utf-8")
 
 
 def promises_of(text):
@@ -431,18 +539,25 @@ def copy_crates(top, room):
     os.mkdir(f"{room}/.git")
 
 
-def main(names):
+def main(words):
     rt, top = toolchain(), os.getcwd()
-    if names == ["--passed"]:
-        return note_passed(rt)
+    is_beside_ci = words == ["--beside-ci"]
     see_promises(top)
+    if is_beside_ci and hasattr(rt, "Kept"):
+        # What this rt has passed stands in its record at the end.
+        if subprocess.call(["rt", "ci"]):
+            return 1
+        is_beside_ci, words = False, []
     with tempfile.TemporaryDirectory(prefix="wrong-bodies-") as room:
         copy_crates(top, room)
         os.chdir(room)
         try:
-            return tried(rt, names, top)
+            is_proved, are_refused = tried(rt, [] if is_beside_ci else words, top, is_beside_ci)
         finally:
             os.chdir(top)
+    if is_beside_ci and is_proved:
+        note_passed(rt, top)
+    return 0 if is_proved and are_refused else 1
 
 
 if __name__ == "__main__":
