@@ -4,7 +4,7 @@ come in two pieces, which part at each of their bytes.
 Which files an inventory has is told by a plan: every user and every group of the host moves, so that the plan has each file."""
 from words import Bundle, merged_by_words
 
-# How many bytes a piece has, where an inventory is read by words.
+# Where a piece of 1,024 bytes ends, and the buffer that it is taken from too, where an inventory is read by words.
 PIECE = 65536
 # The numbers of the host's users and groups, and how much greater their pins are.
 UIDS, GIDS, MORE = (0, 1, 10, 100, 1001, 1002), (0, 100), 5000
