@@ -22,8 +22,8 @@ names the law, and that alone is checked, with its lemmas.
 All is done in a copy of the repository's crates. A crate that `rt ci` has passed on this machine is taken as proved, by the
 record of rt where it keeps one and else by build/passed and the libraries that it left; any other is proved first. Edits are tried
 side by side, one a processor, those of the crate that was proved last before others; beside `rt ci` at the lowest priority, with
-what it leaves idle. No check begins later than WRONG_BODY_MINUTES after the start, where that is set: edits that are left then are
-named. The last line is `N refused, M let through`, with `, K not tried` if there are any; the status is 1 if M is not 0, if there
+what it leaves idle. No check begins later than WRONG_BODY_MINUTES after this script did, where that is set: edits that are left
+then are named. The last line is `N refused, M let through`, with `, K not tried` if there are any; the status is 1 if M is not 0, if there
 was time for those K, or if a crate is not proved.
 """
 import importlib.machinery
@@ -46,10 +46,10 @@ SHARE = 8
 # What has to be free where a check begins, in bytes, or a third of what is free at first, if that is less: twice the most that one
 # was seen to take.
 ROOM = 6_000_000_000
-# The variable of the environment that says after how many minutes no further check begins.
-MINUTES = "WRONG_BODY_MINUTES"
-# The line by which `rt ci` tells that it has proved a crate.
-PROVED = re.compile(r"rt: (\w+) proved\n")
+# The variable of the environment that says after how many minutes no further check begins, and when these began.
+MINUTES, BEGUN = "WRONG_BODY_MINUTES", time.monotonic()
+# The line by which `rt ci` tells that a crate is proved.
+PROVED = re.compile(r"rt: (\w+) (?:proved|is kept: .*)\n")
 # What `rt ci` passed last: a line for each crate, its name and the sum of all that it is made from.
 PASSED = "build/passed"
 # A goal that a check left open, told at the source that it comes from, or at the answer that does not prove it. An answer that
@@ -224,23 +224,21 @@ def made(changes, texts, text_of):
 
 
 class Left:
-    """What `rt ci` passed and left in crates/*/out, for an rt that keeps no record of it (as its class Kept does)."""
+    """What `rt ci` passed and left in crates/*/out, for an rt that keeps no record of it (as its class Kept does). A run that goes
+    on notes nothing as yet, but leaves the library of each crate that it has told as proved."""
 
-    def __init__(self, top):
-        self.top, noted = pathlib.Path(top), pathlib.Path(top, PASSED)
+    def __init__(self, top, is_beside_ci=False):
+        self.top, self.is_beside_ci, noted = pathlib.Path(top), is_beside_ci, pathlib.Path(top, PASSED)
         self.keys = set(noted.read_text(encoding="utf-8").splitlines()) if noted.is_file() else set()
 
     def key(self, crate):
         return f"{crate.name} {crate.stamp()}"
 
     def give(self, crate, _tests, key):
-        """Puts the library of a crate that was passed into this copy of it."""
-        return key in self.keys and self.give_new(crate)
-
-    def give_new(self, crate):
-        """The same of a crate that a run that goes on has passed. A library with a stamp was left by another command."""
+        """Puts the library of a crate that was passed into this copy of it. One with a stamp was left by another command."""
         left = self.top / "crates" / crate.name / "out/rlib"
-        if (left / "stamp").exists() or not (left / f"{crate.name}.rlib").is_dir():
+        is_passed = self.is_beside_ci or key in self.keys
+        if not is_passed or (left / "stamp").exists() or not (left / f"{crate.name}.rlib").is_dir():
             return False
         shutil.copytree(left, f"{crate.folder}/out/rlib", dirs_exist_ok=True)
         return True
@@ -255,7 +253,7 @@ class Crate:
     def __init__(self, rt, crate, passed):
         self.rt, self.crate, self.name, self.passed = rt, crate, crate.name, passed
         self.folder = pathlib.Path(crate.folder)
-        self.edits, self.told = [], []
+        self.edits, self.told, self.is_taken = [], [], False
         for path in sorted((self.folder / FOLDER).glob("*.edit")):
             try:
                 self.edits.append(self.read(path))
@@ -291,13 +289,20 @@ class Crate:
             return function
         raise Unreadable(f"{path} has no function {name}")
 
-    def prove(self, jobs):
-        """Takes the library that rt ci proved of the crate on this machine, or else proves it, from nothing as rt ci does."""
+    def take(self):
+        """Takes the library that rt ci proved of the crate on this machine, if it did; and only once."""
         pathlib.Path(self.folder, "out").mkdir(exist_ok=True)
+        if not self.is_taken and self.passed.give(self.crate, False, self.passed.key(self.crate)):
+            self.passed.is_built(self.crate)
+            self.is_taken = True
+        return self.is_taken
+
+    def prove(self, jobs):
+        """Takes that library, or else proves the crate, from nothing as rt ci does."""
+        if self.take():
+            return True
         with tempfile.TemporaryFile("w+", errors="replace") as self.crate.out:
-            is_proved = self.passed.give(self.crate, False, self.passed.key(self.crate))
-            is_proved = is_proved or self.crate.ci(["--jobs", str(jobs)], False) == 0
-            if is_proved:
+            if is_proved := self.crate.ci(["--jobs", str(jobs)], False) == 0:
                 self.passed.is_built(self.crate)
             else:
                 self.crate.out.seek(0)
@@ -453,18 +458,22 @@ def shares_after_proofs(rt, crates, names):
 
 
 def shares_beside_ci(rt, crates, top):
-    """Runs `rt ci` at the top, and tries the edits of each crate that it tells as proved. Returns whether it passed."""
+    """Runs `rt ci` at the top, and tries the edits of each crate that it tells as proved; then of those whose libraries it did not
+    keep, for want of room on the disk, say. Returns whether it passed."""
     by_name = {it.name: it for it in crates}
     how = {"stdin": subprocess.DEVNULL, "stdout": subprocess.PIPE, "stderr": subprocess.STDOUT, "text": True, "errors": "replace"}
     with Lanes(rt) as lanes, subprocess.Popen(["rt", "ci"], cwd=top, **how) as ci:
         os.nice(19)
         for line in ci.stdout:
             print(line, end="", flush=True)
-            if found := PROVED.fullmatch(line):
-                crate = by_name[found[1]]
-                if crate.passed.give_new(crate.crate):
-                    lanes.add(crate)
-    return ci.returncode == 0
+            found = PROVED.fullmatch(line)
+            if found and by_name[found[1]].take():
+                lanes.add(by_name[found[1]])
+        if ci.wait():
+            # Then no edit matters any more.
+            Share.deadline = BEGUN
+    left = [it.name for it in crates if it.edits and not it.is_taken]
+    return ci.returncode == 0 and shares_after_proofs(rt, crates, left)
 
 
 def tried(rt, names, top, is_beside_ci):
@@ -479,10 +488,10 @@ def tried(rt, names, top, is_beside_ci):
     else:
         # It puts what stands in the crates' out aside: nothing here.
         every = rt.crates_of(os.getcwd(), os.getcwd())
-        passed = Left(top)
+        passed = Left(top, is_beside_ci)
     rt.rtlib.guarded()
     Share.room = min(ROOM, rt.free() // 3)
-    Share.deadline = time.monotonic() + 60 * float(os.environ.get(MINUTES) or "inf")
+    Share.deadline = BEGUN + 60 * float(os.environ.get(MINUTES) or "inf")
     crates = [Crate(rt, it, passed) for it in every]
     have = [it.name for it in crates if it.edits or it.told]
     if unknown := set(names) - set(have):
@@ -543,11 +552,6 @@ def main(words):
     rt, top = toolchain(), os.getcwd()
     is_beside_ci = words == ["--beside-ci"]
     see_promises(top)
-    if is_beside_ci and hasattr(rt, "Kept"):
-        # What this rt has passed stands in its record at the end.
-        if subprocess.call(["rt", "ci"]):
-            return 1
-        is_beside_ci, words = False, []
     with tempfile.TemporaryDirectory(prefix="wrong-bodies-") as room:
         copy_crates(top, room)
         os.chdir(room)
@@ -555,7 +559,7 @@ def main(words):
             is_proved, are_refused = tried(rt, [] if is_beside_ci else words, top, is_beside_ci)
         finally:
             os.chdir(top)
-    if is_beside_ci and is_proved:
+    if is_beside_ci and is_proved and not hasattr(rt, "Kept"):
         note_passed(rt, top)
     return 0 if is_proved and are_refused else 1
 
