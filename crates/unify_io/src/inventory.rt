@@ -4,7 +4,7 @@ use crate::file_lines::FileLines;
 use crate::files::{FileFault, host_directory, too_large};
 use crate::report::file_failed;
 use std::fs::File;
-use std::io::{self, BufReader, Read};
+use std::io::{self, BufRead, BufReader, ErrorKind};
 use std::path::{Path, PathBuf};
 
 // How many bytes of an inventory are asked of the system at once.
@@ -26,6 +26,26 @@ pub struct InventoryFile {
 // Opens a file to be read in parts.
 fn open_buffered(rt: &HostRuntime, path: &str) -> io::Result<BufReader<File>> {
     BufReader::with_capacity(rt.alloc(), BUFFER_BYTES, File::open(rt, path)?)
+}
+
+// Appends the bytes that the buffer has, or those that it is filled with: none only at the end.
+fn append_buffered(reader: &mut BufReader<File>, bytes: &mut Vec<u8>) -> io::Result<()> {
+    let buffered = reader.fill_buf()?;
+    let len = buffered.len().min(PIECE_BYTES);
+    bytes.extend_from_slice(&buffered[..len])?;
+    reader.consume(len);
+    Ok(())
+}
+
+// Appends the next piece, once more where a signal interrupts that.
+fn append_piece(reader: &mut BufReader<File>, bytes: &mut Vec<u8>) -> io::Result<()> {
+    for _ in 0..u64::MAX {
+        match append_buffered(reader, bytes) {
+            Err(error) if error.kind() == ErrorKind::Interrupted => {}
+            ended => return ended,
+        }
+    }
+    Ok(())
 }
 
 impl InventoryFile {
@@ -60,8 +80,7 @@ impl InventoryFile {
     /// Replaces the bytes by the next ones: none only at its end.
     pub fn next_piece(&mut self, rt: &HostRuntime, bytes: &mut Vec<u8>) -> Result<(), FileFault> {
         bytes.clear();
-        let mut piece = self.reader.by_ref().take(PIECE_BYTES as u64);
-        if let Err(error) = piece.read_to_end(bytes) {
+        if let Err(error) = append_piece(&mut self.reader, bytes) {
             return Err(file_failed(rt, self.path.as_str(), &error));
         }
         if let Some(lines) = &mut self.lines {
