@@ -21,7 +21,7 @@ names the law, and that alone is checked, with its lemmas.
 
 All is done in a copy of the repository's crates. A crate that `rt ci` has passed on this machine is taken as proved, by the
 record of rt where it keeps one and else by build/passed and the libraries that it left; any other is proved first. Edits are tried
-side by side, one a processor, those of the crate that was proved last before others; beside `rt ci` at the lowest priority, with
+side by side, one a processor, those of the crate that was proved last before others, at the lowest priority: beside `rt ci` with
 what it leaves idle. No check begins later than WRONG_BODY_MINUTES after this script did, where that is set: edits that are left
 then are named. The last line is `N refused, M let through`, with `, K not tried` if there are any; the status is 1 if M is not 0, if there
 was time for those K, or if a crate is not proved.
@@ -441,6 +441,8 @@ class Lanes:
             self.left.put(share)
 
     def work(self):
+        # It is the thread's own, and that of the checks that it begins: rt ci and its proofs come first.
+        os.nice(19)
         while not (self.is_all.is_set() and self.left.empty()):
             try:
                 self.left.get(timeout=1).try_edits()
@@ -463,7 +465,6 @@ def shares_beside_ci(rt, crates, top):
     by_name = {it.name: it for it in crates}
     how = {"stdin": subprocess.DEVNULL, "stdout": subprocess.PIPE, "stderr": subprocess.STDOUT, "text": True, "errors": "replace"}
     with Lanes(rt) as lanes, subprocess.Popen(["rt", "ci"], cwd=top, **how) as ci:
-        os.nice(19)
         for line in ci.stdout:
             print(line, end="", flush=True)
             found = PROVED.fullmatch(line)

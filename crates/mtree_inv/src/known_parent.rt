@@ -1,4 +1,4 @@
-//! The directory of the entry before, for the names of those that come.
+//! The directory of an earlier entry, for the names of those that come.
 ghost use Rattle.std.specs.Prelude.{◌≡◌, true};
 ghost use Rattle.mtree_inv.specs.Views.{IsPlainName};
 
@@ -13,9 +13,10 @@ fn is_plain_name(name: &[u8]) -> bool
     is_simple_part(name) && !name.contains(&b'/') && !name.contains(&0) && !name.contains(&b'\\')
 }
 
-/// What stands in the path of an entry up to its last slash. Most entries of an inventory with full
-/// paths lie in the directory of the one before: then only the name is looked at. Nothing rests on
-/// what is kept but time.
+/// What stands, up to the last slash, in the last full path that was read anew and has neither an
+/// escape nor a component that begins with a dot. Most entries of an inventory with full paths lie in
+/// the directory of the one before: then only the name is looked at. Nothing rests on what is kept
+/// but time.
 #[derive(Drop)]
 pub(crate) struct KnownParent {
     is_known: bool,
@@ -61,7 +62,7 @@ impl KnownParent {
         }
     }
 
-    /// Keeps what stands in a path up to its last slash, unless it has none, or memory is refused.
+    /// Keeps the front of a path, unless it has no slash, or memory is refused.
     pub(crate) fn keep(&mut self, parent: &[u8])
         requires { IsParent parent.now }
     {

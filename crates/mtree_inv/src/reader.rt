@@ -18,8 +18,8 @@ use std::marker::Model;
 /// with the text that came, whoever named the files. A path that stands in the search tree of which
 /// `feed` tells takes up to some 350 bytes more, as its key has these 256 bytes once more; whoever
 /// names the files may choose many such paths. Only a file that waits to be taken has its whole
-/// path. Of the entry before it keeps the keywords and what stands in its path up to the last
-/// slash, and of files that were given back the memory of 64 paths.
+/// path. Of earlier entries, also of another text, it keeps the keywords of one and the directory of
+/// one, and of files that `reuse` took the memory of at most 64 paths, of 4096 bytes at most each.
 ///
 /// Of texts that are to come twice it can also keep a hash of each path, 8 bytes, by which their
 /// second reading is faster (`keep_hashes`). What it answers never depends on these.
@@ -77,11 +77,10 @@ impl Reader {
     }
 
     /// Is as a new reader then, for the next text, but keeps memory: that of its table of paths, of
-    /// the list of files that wait to be taken, and of paths that were given back. So a reader of
-    /// many texts asks for it once, and none need grow again for each. What it keeps of the entry
-    /// before changes no answer either. It gives back what many paths begin with and
-    /// what stood in search trees, and of a text with more than 1,048,576 files the whole table of
-    /// paths.
+    /// the list of files that wait to be taken, and all that it keeps of earlier entries. So a reader
+    /// of many texts asks for it once, and none of it need grow again for each. It gives back what
+    /// many paths begin with and what stood in search trees, and of a text with more than 1,048,576
+    /// files the whole table of paths.
     ///
     /// Constant time for each place that the table has, at most some four for each file of the
     /// longest text that was kept, for each path in a search tree, and for each file that waits.
@@ -172,10 +171,10 @@ impl Reader {
 
     /// Takes the next piece of the text, which must not be finished. The answer is
     /// `ReadError::Fault` exactly where the whole logical lines so far have a fault, with the
-    /// first, and `ReadError::Memory` where memory was refused. After an error the files are those
-    /// of these lines before the first fault, after `Memory` the first of those; none is of the
-    /// line in progress. They can still be taken. Each later call answers that error again and
-    /// changes nothing.
+    /// first, and `ReadError::Memory` where memory that it needs was refused. After an error the
+    /// files are those of these lines before the first fault, after `Memory` the first of those;
+    /// none is of the line in progress. They can still be taken. Each later call answers that error
+    /// again and changes nothing.
     ///
     /// One pass over the piece and over the whole path of each entry. For each 256 bytes of a path
     /// there is one look-up by hash, which looks at 16 places at most. Only where these are taken,
@@ -281,8 +280,9 @@ impl Reader {
     }
 
     /// Takes back a file that is no longer needed, so that the memory of its path serves a path to
-    /// come. Changes nothing of what the reader answers. Takes constant time, and no memory but for
-    /// a list of 64 paths, with room for at most 4096 bytes each, that are kept so.
+    /// come, which may then have more room than it needs. Changes nothing of what the reader answers.
+    /// Takes constant time, and no memory but for a list of at most 64 paths, with room for at most
+    /// 4096 bytes each, that are kept so; where that is refused, the path is let go.
     pub fn reuse(&mut self, entry: Entry)
         ensures { self.new ≡ self.old }
     {

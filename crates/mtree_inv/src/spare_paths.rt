@@ -3,7 +3,7 @@ ghost use Rattle.std.specs.Prelude.{◌≡◌, [], IfOk};
 
 use std::alloc::{AllocError, Global};
 
-// How many are kept at most: the files that wait after one piece of a text are mostly fewer.
+// How many are kept at most: fewer files mostly wait after a piece of a text of 1,024 bytes.
 const MOST_PATHS: usize = 64;
 
 // How many bytes one may have room for, to be kept.

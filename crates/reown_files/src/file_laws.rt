@@ -21,8 +21,8 @@ pub fn names_are_all_counted()
     ensures checked { NamesAreChecked }
 {}
 
-/// A count looks at the file of each record once, in order, and asks for nothing else. Each file is
-/// one of those with their old owner, with their new one, with another and not there. A count that
+/// A count looks at the file of each record once, in order, and asks for nothing else. The files at
+/// their old owner, at their new one, at another and not there add up to the records. A count that
 /// stops tells the record whose file could not be looked at, after the files of those before it.
 pub fn files_are_all_counted()
     ensures { (records : List PlanRecord) (old new : List Called)

@@ -37,7 +37,7 @@ fn append_buffered(reader: &mut BufReader<File>, bytes: &mut Vec<u8>) -> io::Res
     Ok(())
 }
 
-// Appends the next piece, once more where a signal interrupts that.
+// Appends the next piece, again where a signal interrupts that.
 fn append_piece(reader: &mut BufReader<File>, bytes: &mut Vec<u8>) -> io::Result<()> {
     for _ in 0..u64::MAX {
         match append_buffered(reader, bytes) {
