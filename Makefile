@@ -3,8 +3,8 @@
 #                          and shows what was written: two to three minutes
 #   make try ARGS='merge OUT HOST..'   any other command, in the same way
 #   make program           proves the program and links it, which takes a while; make demo-proved runs the demo with it
-#   make demo-apply        as root, after make program: makes trees of two hosts, merges, carries the plans out, verifies and
-#                          takes them back
+#   make demo-apply        as root, after make program: makes trees of two hosts in build/trees, which only root can remove then,
+#                          merges, carries the plans out, verifies and takes them back
 #   make install PREFIX=.. puts the proved program into PREFIX/bin, the documents and keep files into PREFIX/share/doc/unify
 #   make quick             for daily work: formats and proves the crates that changed, and runs the worked examples unproved
 #   make test              the gate: looks at the documents' names, proves every crate, tries the must-fail edits, runs the tests
@@ -29,9 +29,8 @@ HOSTS = a=$(STORED)/a b=$(STORED)/b
 TABLES = $(STORED)/b/passwd $(STORED)/b/group
 REFUSED = build/refused
 
-# How many proofs go side by side. With 18 GB of free memory rt chooses, and gives the processors that are idle to a proof that all
-# others wait for. With less it would let a large proof wait for memory that none needs: then as many as there are processors, of 3
-# GB each.
+# How many proofs go side by side. With 18 GB of free memory rt chooses. With less it would let a large proof wait for memory that
+# none needs: then one for each 3 GB, and no more than there are processors.
 LANES ?= $(shell awk -v most=$$(nproc) '/^MemAvailable/ { fit = int($$2 / 3000000); \
 	if ($$2 < 18000000) print fit < 1 ? 1 : fit < most ? fit : most }' /proc/meminfo)
 # What make quick calls changed: whatever differs from this commit.

@@ -5,8 +5,8 @@
     gate/wrong_bodies.py [NAME..]     tries those of these crates, or of all
 
 An edit is a file as rt's must-fail edits are: lines `file: PATH` below the crate, `old: TEXT`, which stands there once, and
-`new: TEXT`. A line `why: TEXT` is for the reader: the promise of docs/promises.md that it breaks, or some with commas between
-them, and what else is to be said after a semicolon or a colon.
+`new: TEXT`. A line `why: TEXT` names the promise of docs/promises.md that it breaks, which has to be there, or some with commas
+between them, and what else is to be said after a semicolon or a colon.
 
 The edits of a crate are tried in rounds. A round takes edits that touch different functions, makes them all in one copy of the
 crate, and has these functions checked, with what they call. An edit is refused where that check leaves a goal open in a function
@@ -23,8 +23,8 @@ All is done in a copy of the repository's crates. A crate that `rt ci` has passe
 record of rt where it keeps one and else by build/passed and the libraries that it left; any other is proved first. Edits are tried
 side by side, one a processor, those of the crate that was proved last before others, at the lowest priority: beside `rt ci` with
 what it leaves idle. No check begins later than WRONG_BODY_MINUTES after this script did, where that is set: edits that are left
-then are named. The last line is `N refused, M let through`, with `, K not tried` if there are any; the status is 1 if M is not 0, if there
-was time for those K, or if a crate is not proved.
+then are named. The last line is `N refused, M let through`, with `, K not tried` if there are any; M counts all others that were
+tried or read and not refused. The status is 1 if M is not 0, if there was time for those K, or if a crate is not proved.
 """
 import importlib.machinery
 import importlib.util
@@ -391,7 +391,7 @@ class Share:
         return place is not None
 
     def try_edits(self):
-        """Tries the edits while there is time. Where the try fails (a full disk, say) none is told as refused, and the others go on."""
+        """Tries the edits while there is time. Where that fails (a full disk, say) none is told as refused, and others go on."""
         try:
             with tempfile.TemporaryDirectory(prefix="wrong-bodies-") as kept:
                 for edit in self.tried_together(kept):
@@ -478,8 +478,8 @@ def shares_beside_ci(rt, crates, top):
 
 
 def tried(rt, names, top, is_beside_ci):
-    """Tries the edits of the crates of these names, or of all. Returns whether all is proved, and whether each edit was refused. What
-    was passed was passed at the top."""
+    """Tries the edits of the crates of these names, or of all. Returns whether all is proved, and whether each edit was refused.
+    What was passed was passed at the top."""
     # As under rt ci: the crates above a library load its statements.
     rt.Crate.cuts_libraries = True
     rt.Crate.allowed = rt.handles_of(os.getcwd())
