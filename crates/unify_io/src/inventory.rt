@@ -37,15 +37,21 @@ fn append_buffered(reader: &mut BufReader<File>, bytes: &mut Vec<u8>) -> io::Res
     Ok(())
 }
 
+// Whether a signal interrupted a call.
+fn is_interrupted(ended: &io::Result<()>) -> bool {
+    matches!(ended, Err(error) if error.kind() == ErrorKind::Interrupted)
+}
+
 // Appends the next piece, again where a signal interrupts that.
 fn append_piece(reader: &mut BufReader<File>, bytes: &mut Vec<u8>) -> io::Result<()> {
+    let mut ended = append_buffered(reader, bytes);
     for _ in 0..u64::MAX {
-        match append_buffered(reader, bytes) {
-            Err(error) if error.kind() == ErrorKind::Interrupted => {}
-            ended => return ended,
+        if !is_interrupted(&ended) {
+            break;
         }
+        ended = append_buffered(reader, bytes);
     }
-    Ok(())
+    ended
 }
 
 impl InventoryFile {
