@@ -90,7 +90,7 @@ fn candidates_of(
             more -= lines - 1;
             row.push(Candidate {
                 number: cell.number,
-                weight: file_weight * cell.files + lines,
+                weight: file_weight * u64::from(cell.files) + lines,
             })?;
         }
     }

@@ -98,13 +98,13 @@ pub overflow_mul-file_weight : goal.overflow_mul-file_weight
 overflow_mul-file_weight c =
     let fit = fits c.args.names.now c.args.counts.now c.args.index c.loop-cell.cell-index c.cells-cells.result.now c.requires.made c.requires.within c.cells-cells.ensures.cells c.cells-cells.ensures.ascending c.loop-cell-test.true
     (c.all_lines-file_weight.result + 1) c.lines_of-lines.result (omega (arith, c.all_lines-file_weight.ensures.few)) c.lines_of-lines.ensures (omega (arith, c.all_lines-file_weight.ensures.lines, c.all_lines-file_weight.ensures.few)) c.requires.few in
-    omega (arith, fit)
+    rw c.from.ensures (omega (arith, fit))
 
 pub overflow_add-file_weight-then-has : goal.overflow_add-file_weight-then-has
 overflow_add-file_weight-then-has c =
     let fit = fits c.args.names.now c.args.counts.now c.args.index c.loop-cell.cell-index c.cells-cells.result.now c.requires.made c.requires.within c.cells-cells.ensures.cells c.cells-cells.ensures.ascending c.loop-cell-test.true
     (c.all_lines-file_weight.result + 1) c.lines_of-lines.result (omega (arith, c.all_lines-file_weight.ensures.few)) c.lines_of-lines.ensures (omega (arith, c.all_lines-file_weight.ensures.lines, c.all_lines-file_weight.ensures.few)) c.requires.few in
-    omega (arith, fit)
+    rw c.from.ensures (omega (arith, fit))
 
 pub loop-cell-preserved : goal.loop-cell-preserved
 loop-cell-preserved c =
@@ -131,7 +131,7 @@ loop-cell-preserved c =
           (c.all_lines-file_weight.result + 1) w.lines_of-lines.result (omega (arith, c.all_lines-file_weight.ensures.few)) w.lines_of-lines.ensures (omega (arith, c.all_lines-file_weight.ensures.lines, c.all_lines-file_weight.ensures.few)) c.requires.few in
           let pushed = so-far-push a tallies i k w' es row c.cells-cells.ensures.ascending within (sym pooled ∙ w.if-has.true) is (omega (arith, w.lines_of-lines.ensures, least)) fit c.loop-cell.invariant.row in
           record {
-            row = rw (w.row-is, w.in_ok-push.ensures.ok, number-at cs k here) pushed;
+            row = rw (w.row-is, w.in_ok-push.ensures.ok, w.from.ensures, number-at cs k here) pushed;
             enough = rw w.more-is (next a tallies i k cs c.requires.made c.requires.within c.cells-cells.ensures.cells c.cells-cells.ensures.ascending here c.loop-cell.more w.lines_of-lines.result w.lines_of-lines.ensures c.loop-cell.invariant.enough);
           }
       | else-has w ↦ record {
