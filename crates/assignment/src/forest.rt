@@ -23,25 +23,27 @@ struct GuessedName {
     parent: u32,
     /// The next name of the tree.
     next: Option<u32>,
-    /// The level at which it joined the tree.
-    level: u64,
     /// The level at which it is to be read again.
     alarm: u64,
 }
 
-/// A number: its potential, the name that has it, and whether that is in a tree.
+/// A number: the name that has it, and whether that is in a tree.
 #[derive(Clone, Copy, Debug)]
 struct GuessedNumber {
-    z: u64,
     owner: Option<u32>,
     is_held: bool,
 }
 
-/// Names and numbers, and the trees that are growing.
+/// Names and numbers, and the trees that are growing. What is read most often, and for names and
+/// numbers in any order, stands in lists of its own, which are short enough for a near cache.
 #[derive(Drop)]
 pub struct Forest {
     names: Vec<GuessedName>,
+    /// The level at which nothing is left of a name's potential, if it is in a tree, and else 0.
+    ends: Vec<u64>,
     numbers: Vec<GuessedNumber>,
+    /// The potentials of the numbers, in a tree as they were when their names joined.
+    z: Vec<u64>,
     /// How many trees there are.
     pub trees: usize,
     /// The level: by how much the potentials of names have fallen that were in trees all the time.
@@ -61,7 +63,9 @@ impl Forest {
     pub fn new(alloc: Global, graph: &Graph) -> Result<Self, AllocError> {
         let mut forest = Forest {
             names: Vec::with_capacity(alloc, graph.size as usize)?,
-            numbers: Vec::with_capacity(alloc, graph.numbers.len())?,
+            ends: vec![in alloc; 0_u64; graph.size as usize]?,
+            numbers: vec![in alloc; no_number(); graph.numbers.len()]?,
+            z: vec![in alloc; 0_u64; graph.numbers.len()]?,
             trees: 0,
             now: 0,
             ready: VecDeque::new(alloc),
@@ -74,9 +78,6 @@ impl Forest {
                 most = pair.weight.max(most);
             }
             forest.names.push(no_name(most))?;
-        }
-        for _ in graph.numbers.as_slice() {
-            forest.numbers.push(no_number())?;
         }
         Ok(forest)
     }
@@ -97,6 +98,20 @@ impl Forest {
         }
     }
 
+    /// The level at which nothing is left of a name's potential, or 0 where it is in no tree.
+    fn end(&self, name: u32) -> u64 {
+        match self.ends.get(name as usize) {
+            Some(end) => *end,
+            None => 0,
+        }
+    }
+
+    fn set_end(&mut self, name: u32, level: u64) {
+        if let Some(end) = self.ends.get_mut(name as usize) {
+            *end = level;
+        }
+    }
+
     /// The place of the number that a name has.
     pub fn place(&self, name: u32) -> Option<u32> {
         self.name(name).place
@@ -104,7 +119,10 @@ impl Forest {
 
     /// The potential of the number at a place, if that is in no tree.
     pub fn z(&self, place: u32) -> u64 {
-        self.number(place).z
+        match self.z.get(place as usize) {
+            Some(z) => *z,
+            None => 0,
+        }
     }
 
     /// Begins anew at level 0, where no tree grows.
@@ -131,12 +149,14 @@ impl Forest {
                 first.next = Some(name);
             }
         }
+        let mut end = 0;
         if let Some(now) = self.names.get_mut(name as usize) {
             now.root = Some(root);
             now.parent = parent;
             now.next = next;
-            now.level = self.now;
+            end = self.now.saturating_add(now.y);
         }
+        self.set_end(name, end);
         if let Some(place) = self.place(name) {
             if let Some(held) = self.numbers.get_mut(place as usize) {
                 held.is_held = true;
@@ -147,8 +167,7 @@ impl Forest {
     /// Reads the pairs of a name of a tree: the tree is out, or the name has reached what it can at
     /// the level now, and waits for a later one.
     fn read(&mut self, graph: &Graph, name: u32) -> Result<(), AllocError> {
-        let now = self.name(name);
-        let high = now.y.saturating_sub(self.now.saturating_sub(now.level));
+        let high = self.end(name).saturating_sub(self.now);
         if high == 0 {
             return self.serve(graph, name, None);
         }
@@ -170,9 +189,9 @@ impl Forest {
             if high.saturating_sub(pair.weight) >= least {
                 continue;
             }
-            let number = self.number(pair.place);
-            let slack = high.saturating_add(number.z).saturating_sub(pair.weight);
-            if slack >= least || number.is_held {
+            let slack = high.saturating_add(self.z(pair.place));
+            let slack = slack.saturating_sub(pair.weight);
+            if slack >= least || self.number(pair.place).is_held {
                 continue;
             }
             if slack == 0 {
@@ -251,21 +270,29 @@ impl Forest {
                 return Ok(());
             };
             let now = self.name(name);
-            let by = self.now.saturating_sub(now.level);
+            let high = self.end(name).saturating_sub(self.now);
+            self.set_end(name, 0);
             if let Some(felled) = self.names.get_mut(name as usize) {
-                felled.y = now.y.saturating_sub(by);
+                felled.y = high;
                 felled.root = None;
             }
             if let Some(place) = now.place {
-                if let Some(held) = self.numbers.get_mut(place as usize) {
-                    held.z = held.z.saturating_add(by);
-                    held.is_held = false;
-                }
+                self.give_back(place, now.y.saturating_sub(high));
                 self.freed.push(place)?;
             }
             first = now.next;
         }
         Ok(())
+    }
+
+    /// Raises a number by what its name was lowered, and holds it no more.
+    fn give_back(&mut self, place: u32, by: u64) {
+        if let Some(z) = self.z.get_mut(place as usize) {
+            *z = z.saturating_add(by);
+        }
+        if let Some(held) = self.numbers.get_mut(place as usize) {
+            held.is_held = false;
+        }
     }
 
     /// Gives a name the number that it has reached, the name that reached it the number that it
@@ -295,14 +322,13 @@ impl Forest {
             let Some(place) = self.freed.pop() else {
                 return Ok(());
             };
-            let z = self.number(place).z;
+            let z = self.z(place);
             for wish in graph.wishes_of(place) {
-                let now = self.name(wish.name);
-                if now.root.is_none() {
+                let end = self.end(wish.name);
+                if end == 0 {
                     continue;
                 }
-                let high = now.level.saturating_add(now.y).saturating_add(z);
-                let level = high.saturating_sub(graph.weight(wish.pair));
+                let level = end.saturating_add(z).saturating_sub(wish.weight);
                 if level <= self.now {
                     self.reach_now(graph, wish.name, place)?;
                 } else {
@@ -359,7 +385,6 @@ fn no_name(y: u64) -> GuessedName {
         root: None,
         parent: 0,
         next: None,
-        level: 0,
         alarm: u64::MAX,
     }
 }
@@ -367,7 +392,6 @@ fn no_name(y: u64) -> GuessedName {
 /// A number that nobody has.
 fn no_number() -> GuessedNumber {
     GuessedNumber {
-        z: 0,
         owner: None,
         is_held: false,
     }

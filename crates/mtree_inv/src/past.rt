@@ -4,8 +4,8 @@ use crate::parts::Parts;
 use std::alloc::Global;
 use std::collections::VecDeque;
 
-// How many hashes are kept at most: 128 MiB of them.
-const MOST_HASHES: usize = 16777216;
+// How many hashes are kept at most: 512 MiB of them.
+const MOST_HASHES: usize = 67108864;
 
 /// What is done with hashes where a text ends.
 #[derive(Clone, Copy, Drop)]

@@ -135,7 +135,7 @@ impl Reader {
     ///
     /// Each path takes 8 bytes until its text has come once more. None are kept of a text of which
     /// two paths have one hash, as whoever names the files can bring about, nor where memory is
-    /// refused, nor where there would be more than 16,777,216 in all. Then that text is read as
+    /// refused, nor where there would be more than 67,108,864 in all. Then that text is read as
     /// always.
     pub fn keep_hashes(&mut self)
         ensures { self.new ≡ self.old }

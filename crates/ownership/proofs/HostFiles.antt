@@ -1,5 +1,5 @@
 -- The counters of a site with the files of one host more.
-use Rattle.std.proofs.Common.{◌≡◌, ℕ, ◌+◌, ◌≤◌, ◌==◌, ◌&&◌, Bool, cond, List, [], ◌∷◌, ◌++◌, length, map, Option, Some, None, refl, sym, ap, ◌∙◌, arith}
+use Rattle.std.proofs.Common.{◌≡◌, ℕ, ◌+◌, ◌≤◌, ◌==◌, ◌&&◌, Bool, cond, List, [], ◌∷◌, ◌++◌, length, map, Option, Some, None, refl, sym, subst, ap, ◌∙◌, arith}
 use Rattle.std.specs.Prelude.{is_some}
 use Rattle.std.specs.List.{count_by, sum}
 use Rattle.std.proofs.lemmas.List.{length-map, map-append}
@@ -12,9 +12,10 @@ use Rattle.hosts_join.specs.Lawful.{AreLawfulAccounts}
 use Rattle.hosts_join.specs.Laws.{IsOwnedAsTold, KnowsHost}
 use Rattle.hosts_join.specs.Site.{Joined}
 use Rattle.hosts_join.specs.declared.host.Host.{Host}
-use Rattle.ownership.specs.Counts.{AreWithin, CountFiles, Tally}
+use Rattle.ownership.specs.Counts.{AreWithin, CountFiles, Counted, Tally}
 use Rattle.ownership.specs.Files.{Added, File, by_group, by_user, is_place, owned_files, owns}
 use Rattle.ownership.specs.HostFiles.{AreOfHost, AreRowCounts, CountsRows, rows_with}
+use Rattle.ownership.specs.Within.{IsWithin}
 use Rattle.ownership.proofs.CostLemmas.{kept-is}
 use Rattle.ownership.proofs.HostCounts.{all_rows, by_rows}
 use Rattle.ownership.proofs.RowSums.{rows-within}
@@ -122,12 +123,25 @@ module _ (a : Accounts) (lawful : AreLawfulAccounts a) (of : Added → ℕ) (ind
   }
 
 -- no counter is above the files that were added and those of all rows
-pub within_rows : (names : List Account) (index : ℕ) (pairs : List (List ℕ × ℕ)) (files : List ℕ) (old new : List Tally) (added : ℕ) → CountsRows names index pairs files (length files) old new → AreWithin old added → AreWithin new (added + sum files)
-within_rows names index pairs files old new added rows was = record {
+pub within_rows : (names : List Account) (index : ℕ) (pairs : List (List ℕ × ℕ)) (files : List ℕ) (rows : ℕ) (old new : List Tally) (added : ℕ) → rows ≤ length files → CountsRows names index pairs files rows old new → AreWithin old added → AreWithin new (added + sum files)
+within_rows names index pairs files rows old new added first counted was = record {
   kept_le = λ i v.
-      let more = rows-within (λ n. is_place i (owner names index n) && (n == v)) pairs files (length files) (omega arith) in
-      omega (arith, rows.kept i v, was.kept_le i v, more);
+      let more = rows-within (λ n. is_place i (owner names index n) && (n == v)) pairs files rows first in
+      omega (arith, counted.kept i v, was.kept_le i v, more);
   total_le = λ i.
-      let more = rows-within (λ n. is_place i (owner names index n)) pairs files (length files) (omega arith) in
-      omega (arith, rows.total i, was.total_le i, more);
+      let more = rows-within (λ n. is_place i (owner names index n)) pairs files rows first in
+      omega (arith, counted.total i, was.total_le i, more);
 }
+
+-- the counters of both kinds, when the files of the first rows of a host were added
+module _ (users_names groups_names : List Account) (index : ℕ) (user_pairs group_pairs : List (List ℕ × ℕ)) (users groups : List ℕ) (old : Counted) (new_users new_groups : List Tally) (user_files group_files : ℕ)
+    (all_users : user_files ≡ old.user_files + sum users) (all_groups : group_files ≡ old.group_files + sum groups) (few_users : user_files ≤ 2147483648) (few_groups : group_files ≤ 2147483648) where
+  pub is_within : (user_rows group_rows : ℕ) → user_rows ≤ length users → group_rows ≤ length groups
+      → CountsRows users_names index user_pairs users user_rows old.users new_users → CountsRows groups_names index group_pairs groups group_rows old.groups new_groups
+      → IsWithin old → IsWithin (record { users = new_users; groups = new_groups; user_files = user_files; group_files = group_files })
+  is_within user_rows group_rows first_users first_groups counted_users counted_groups was = record {
+    users = subst (AreWithin new_users) (sym all_users) (within_rows users_names index user_pairs users user_rows old.users new_users old.user_files first_users counted_users was.users);
+    groups = subst (AreWithin new_groups) (sym all_groups) (within_rows groups_names index group_pairs groups group_rows old.groups new_groups old.group_files first_groups counted_groups was.groups);
+    few_users = few_users;
+    few_groups = few_groups;
+  }

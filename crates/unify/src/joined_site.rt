@@ -23,7 +23,7 @@ use crate::solved_pass::Solved;
 use crate::text_log::TextLog;
 use crate::turn::Turn;
 use hosts_join::{Host, Site};
-use ownership::Counts;
+use ownership::{Counting, Counts};
 use std::alloc::{AllocError, Global};
 use unify_texts::Fault;
 
@@ -40,18 +40,18 @@ fn counts_of(
         (λ counts. (read : List (Host × List Entry)) → read_in inventories.now ≡ Ok read
         → counters.StandsFor site.now counts (added_from 0 read)) }
 {
-    let mut counts = Counts::new(alloc, site)?;
+    let mut counting = Counting::new(alloc, site)?;
     for (index, rows) in inventories.passed.iter().enumerate() {
         let host = &inventories.hosts[index];
-        counts.add_host(
+        counting.add_host(
             site,
             index as u32,
             host,
             rows.users.as_slice(),
             rows.groups.as_slice(),
-        );
+        )?;
     }
-    Ok(counts)
+    Ok(counting.finish())
 }
 
 // What is merged from the counters, and the turn of the first host in the second pass.

@@ -41,10 +41,10 @@ add_host-requires-clause-room c =
     let over : IsOver (seen p) = rw (← c.inventories.view_is) at c.requires.none_left in
     let site = c.args.site.now in
     let index = c.loop-index.index in
-    let so_far : AreCountersBefore p site c.loop-index.counts index = rw (← c.inventories.view_is) at c.loop-index.invariant.counted in
+    let so_far : AreCountersBefore p site c.loop-index.counting index = rw (← c.inventories.view_is) at c.loop-index.invariant.counted in
     let together : AreTogether p.hosts site = rw (← c.inventories.view_is) at c.requires.together in
     let inv = c.inventories.invariant.counting in
-    room_before (seen p) site c.loop-index.counts inv.read index over inv.accepted together.few (so_far inv.read inv.accepted)
+    room_before (seen p) site c.loop-index.counting inv.read index over inv.accepted together.few (so_far inv.read inv.accepted)
 
 pub loop-index-preserved : goal.loop-index-preserved
 loop-index-preserved c =
@@ -52,7 +52,7 @@ loop-index-preserved c =
     let over : IsOver (seen p) = rw (← c.inventories.view_is) at c.requires.none_left in
     let site = c.args.site.now in
     let index = c.loop-index.index in
-    let so_far : AreCountersBefore p site c.loop-index.counts index = rw (← c.inventories.view_is) at c.loop-index.invariant.counted in
+    let so_far : AreCountersBefore p site c.loop-index.counting index = rw (← c.inventories.view_is) at c.loop-index.invariant.counted in
     let host = c.index-host.result.now in
     let rows = c.rows-item.result in
     let rows_are = c.rows-item.is ∙ ap (λ (rs : List RowFiles). get_or rs index rows) c.deref-rows-items.ensures.value in
@@ -64,8 +64,11 @@ loop-index-preserved c =
       counted = rw (← c.inventories.view_is) (λ read are.
           let at = files_at p c.inventories.invariant.counting over read are index host rows left c.index-host.ensures rows_are in
           subst (counters.StandsFor site c.add_host.new.self) (sym (more_files index host rows read at))
-          (c.add_host.ensures.added (files_before read index) (files_here index host rows read at) (so_far read are) (of_host index host rows read at) (row_counts index host rows read at c.as_slice.result.now c.as_slice-in-loop-index.result.now users groups)));
+          (c.in_ok-add_host.ensures.added (files_before read index) (files_here index host rows read at) (so_far read are) (of_host index host rows read at) (row_counts index host rows read at c.as_slice.result.now c.as_slice-in-loop-index.result.now users groups)));
     }
+
+pub returns-clause-made : goal.returns-clause-made
+returns-clause-made c = c.finish.ensures.made c.args.site.now c.loop-index.invariant.made
 
 pub returns-clause-counted : goal.returns-clause-counted
 returns-clause-counted c =
@@ -73,7 +76,8 @@ returns-clause-counted c =
     let over : IsOver (seen p) = rw (← c.inventories.view_is) at c.requires.none_left in
     let site = c.args.site.now in
     let index = c.loop-index.index in
-    let so_far : AreCountersBefore p site c.loop-index.counts index = rw (← c.inventories.view_is) at c.loop-index.invariant.counted in
+    let so_far : AreCountersBefore p site c.loop-index.counting index = rw (← c.inventories.view_is) at c.loop-index.invariant.counted in
     rw (← c.inventories.view_is) (λ read are.
     let all : length read ≤ index = omega (arith, read_length (seen p) read over are, c.inventories.invariant.counting.ended_are, over, c.loop-index-test.false, ap length c.deref-rows-items.ensures.value) in
-    subst (λ (hs : List (Host × List Entry)). counters.StandsFor site c.loop-index.counts (added_from 0 hs)) (take_all index read all) (so_far read are))
+    c.finish.ensures.counted site (added_from 0 read)
+    (subst (λ (hs : List (Host × List Entry)). counters.StandsFor site c.loop-index.counting (added_from 0 hs)) (take_all index read all) (so_far read are)))

@@ -9,6 +9,6 @@ use Rattle.unify.proofs.joined_site.counts_of.Given as goal
 
 abbrev pub invariant-loop-index : goal.invariant-loop-index
 invariant-loop-index l = record {
-  made : IsMadeFor l.site l.counts;
-  counted : (read : List (Host × List Entry)) → read_in l.inventories ≡ Ok read → counters.StandsFor l.site l.counts (files_before read l.index);
+  made : IsMadeFor l.site l.counting;
+  counted : (read : List (Host × List Entry)) → read_in l.inventories ≡ Ok read → counters.StandsFor l.site l.counting (files_before read l.index);
 }

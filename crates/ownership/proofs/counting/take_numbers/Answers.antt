@@ -9,7 +9,7 @@ use Rattle.std.proofs.lemmas.Map.Keys.{IsStrictlyIncreasing-dedup}
 use Rattle.hosts_join.specs.declared.Spot.{Spot}
 use Rattle.hosts_join.specs.declared.Standing.TheVariants.{Regular}
 use Rattle.ownership.proofs.Numbers.{any-dedup}
-use Rattle.ownership.proofs.tally.take_numbers.Goals as goal
+use Rattle.ownership.proofs.counting.take_numbers.Goals as goal
 
 pub loop-spot-init : goal.loop-spot-init
 loop-spot-init c = λ v. ap (list_any (λ n. v == n)) c.clear.ensures.items
