@@ -78,7 +78,7 @@ fn check_kind<'a>(
 
 /// The cost of the certificate's mappings, where it certifies them: how many user fields and group
 /// fields of the counted files they change. Requires that the counters were made for the site and
-/// stand for some list of added files, as those of `Counts::new` to which files were added do.
+/// stand for some list of added files, as those of `Counting::finish` do.
 ///
 /// A yes proves that no admissible pair of mappings costs less, and that among those of least cost
 /// for a kind none changes fewer account rows of it, whoever wrote the certificate.
