@@ -1,5 +1,6 @@
-use Rattle.std.proofs.Common.{◌≡◌, ◌<◌, ◌≤◌, ℕ, List, Ok, length, get_or, sym, ap, subst, ◌∙◌, arith}
+use Rattle.std.proofs.Common.{◌≡◌, ◌<◌, ◌≤◌, ℕ, List, Ok, length, get_or, refl, sym, ap, subst, ◌∙◌, arith}
 use Rattle.std.proofs.lemmas.List.{take_all}
+use Rattle.std.proofs.lemmas.Option.{slice_get_read}
 use Rattle.hosts_join.specs.Site.{Joined}
 use Rattle.mtree_inv.specs.declared.entry.Entry.{Entry}
 use Rattle.hosts_join.specs.declared.host.Host.{Host}
@@ -34,6 +35,17 @@ add_host-requires-clause-counted c =
     let read = inv.read in
     let at = files_at p inv over read inv.accepted index host rows left c.index-host.ensures rows_are in
     (files_here index host rows read at, of_host index host rows read at, row_counts index host rows read at c.as_slice.result.now c.as_slice-in-loop-index.result.now users groups, few_here index host rows read at)
+
+pub add_host-requires-clause-known : goal.add_host-requires-clause-known
+add_host-requires-clause-known c =
+    let p = pass_of c.inventories.inside in
+    let over : IsOver (seen p) = rw (← c.inventories.view_is) at c.requires.none_left in
+    let index = c.loop-index.index in
+    let host = c.index-host.result.now in
+    let together : AreTogether p.hosts c.args.site.now = rw (← c.inventories.view_is) at c.requires.together in
+    let left : index < length p.passed = omega (arith, c.loop-index-test.true, ap length c.deref-rows-items.ensures.value) in
+    let within : index < length p.hosts = omega (arith, left, c.inventories.invariant.counting.ended_are, over) in
+    together.known index host (slice_get_read p.hosts (length p.hosts) index host refl within c.index-host.ensures)
 
 pub add_host-requires-clause-room : goal.add_host-requires-clause-room
 add_host-requires-clause-room c =
