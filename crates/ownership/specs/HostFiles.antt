@@ -2,11 +2,13 @@
 -- Source: passwd(5) and group(5) (a row gives its name one number, which the name's files have);
 -- that files are counted by rows is this project's own rule.
 use Rattle.std.specs.Prelude.{◌≡◌, ℕ, ◌+◌, ◌==◌, ◌&&◌, Bool, if◌then◌else◌, List, map, length}
-use Rattle.std.specs.Prelude.{count_by, slice_index_or}
+use Rattle.std.specs.Prelude.{count_by, slice_index_or, sum}
 use Rattle.std.specs.List.{All}
 use Rattle.hosts_join.specs.Accounts.{Account, owner, no_row}
+use Rattle.hosts_join.specs.Kinds.{user_rows, group_rows}
+use Rattle.hosts_join.specs.Site.{Joined}
 use Rattle.hosts_join.specs.declared.host.Host.{Host}
-use Rattle.ownership.specs.Counts.{Tally, has_cell, tally_at, told_kept, told_total}
+use Rattle.ownership.specs.Counts.{Counted, Tally, has_cell, tally_at, told_kept, told_total}
 use Rattle.ownership.specs.Files.{Added, is_place}
 use Rattle.ownership.specs.Sums.{sum_below}
 
@@ -42,3 +44,16 @@ pub record CountsRows (names : List Account) (index : ℕ) (pairs : List (List �
       files rows
   pub total : (i : ℕ) → told_total new i
       ≡ told_total old i + rows_with (λ n. is_place i (owner names index n)) pairs files rows
+
+-- of a host's files those of the first rows of its passwd, and of its group, more, while those of
+-- all rows are said to have a user, and a group
+pub record CountsFirstRows (site : Joined) (index : ℕ) (host : Host) (by_users by_groups : List ℕ)
+    (old new : Counted) : Type 0 where
+  pub of_passwd : ℕ
+  pub of_group : ℕ
+  pub users : CountsRows site.users.names index (user_rows host.users) by_users of_passwd
+      old.users new.users
+  pub groups : CountsRows site.groups.names index (group_rows host.groups) by_groups of_group
+      old.groups new.groups
+  pub user_files : new.user_files ≡ old.user_files + sum by_users
+  pub group_files : new.group_files ≡ old.group_files + sum by_groups

@@ -174,27 +174,17 @@ impl Model for Counting {
 
     ghost Value = { Counted };
 
-    ghost view = { λ c. record {
-      users = c.users;
-      groups = c.groups;
-      user_files = c.user_files;
-      group_files = c.group_files;
-    } };
+    ghost use Rattle.ownership.specs.CountedInside.{counted_so_far, IsCounting};
 
-    ghost use Rattle.ownership.specs.Within.{IsWithin};
+    ghost view = { counted_so_far };
 
-    ghost invariant = { λ c. IsWithin (record {
-      users = c.users;
-      groups = c.groups;
-      user_files = c.user_files;
-      group_files = c.group_files;
-    }) };
+    ghost invariant = { IsCounting };
 }
 
 impl Counting {
     ghost use Rattle.ownership.specs.Files.{Added};
     ghost use Rattle.ownership.specs.Counts.{StandsFor, IsMadeFor, AreWithin};
-    ghost use Rattle.ownership.specs.HostFiles.{AreOfHost, AreRowCounts};
+    ghost use Rattle.ownership.specs.HostFiles.{AreOfHost, AreRowCounts, CountsFirstRows};
     ghost use Rattle.hosts_join.specs.Site.{Joined};
     ghost use Rattle.hosts_join.specs.Hosts.{IsLawfulHost};
     ghost use Rattle.hosts_join.specs.Laws.{HasLawfulAccounts, KnowsHost};
@@ -222,8 +212,8 @@ impl Counting {
     /// a group.
     ///
     /// For each row that owns files a step, and memory for a note, which `new` has taken for one
-    /// row of each name and host. `AllocError` where more is refused: the counters are those of the
-    /// site still, but some files of the host are missing in them.
+    /// row of each name and host. `AllocError` where more is refused: then the files of the first
+    /// rows alone are counted, though those of all rows are said to have a user, and a group.
     pub fn add_host(
         &mut self,
         site: &Site<'_>,
@@ -240,6 +230,8 @@ impl Counting {
             × AreRowCounts host.now here users.now groups.now × (length here ≤ 16777216) }
         requires room { (self.old.user_files ≤ 1073741824) × (self.old.group_files ≤ 1073741824) }
         ensures made { IsMadeFor site.now self.new }
+        ensures first { OnErr result
+            (CountsFirstRows site.now index host.now users.now groups.now self.old self.new) }
         ensures added { OnOk result ((files here : List Added)
             → StandsFor site.now self.old files
             → AreOfHost index here → AreRowCounts host.now here users.now groups.now

@@ -3,8 +3,10 @@ use Rattle.hosts_join.specs.Accounts.{Accounts}
 use Rattle.hosts_join.specs.Kinds.{user_rows, group_rows}
 use Rattle.ownership.specs.Counts.{CountFiles, Counted}
 use Rattle.ownership.specs.Files.{by_user, by_group}
-use Rattle.ownership.specs.HostFiles.{CountsRows}
+use Rattle.ownership.specs.CountedInside.{counted_so_far}
+use Rattle.ownership.specs.HostFiles.{CountsFirstRows, CountsRows}
 use Rattle.ownership.proofs.HostFiles.{users-all, users-by_rows, users-few, groups-all, groups-by_rows, groups-few, is_within, owned_both, counts_here}
+use Rattle.ownership.proofs.NoteLemmas.{on_err}
 use Rattle.ownership.proofs.RowSums.{rows-none}
 use Rattle.ownership.proofs.counting.Counting.add_host.Goals as goal
 
@@ -56,6 +58,24 @@ invariant_of-self c =
     (omega (arith, c.all_files.ensures)) (omega (arith, c.all_files-2.ensures)) (omega (arith, users_before, c.all_files.ensures, by_users, here.3)) (omega (arith, groups_before, c.all_files-2.ensures, by_groups, here.3))
     c.add_rows.ensures.first.0 0 c.add_rows.ensures.first.1 (omega arith) c.add_rows.ensures.first.2 (rows-none c.args.site.now.groups.names c.args.index (group_rows host.groups) groups c.self.inside.groups) c.self.invariant
 
+pub returns-in_err-add_rows-clause-first : goal.returns-in_err-add_rows-clause-first
+returns-in_err-add_rows-clause-first c =
+    let site = c.args.site.now in
+    let index = c.args.index in
+    let host = c.args.host.now in
+    let users = c.args.users.now in
+    let groups = c.args.groups.now in
+    let new : Counted = record { users = c.add_rows.new.self; groups = c.self.inside.groups; user_files = c.self.inside.user_files + c.all_files.result; group_files = c.self.inside.group_files + c.all_files-2.result } in
+    let first : CountsFirstRows site index host users groups (counted_so_far c.self.inside) new = record {
+      of_passwd = c.add_rows.ensures.first.0;
+      of_group = 0;
+      users = subst (λ (a : Accounts). CountsRows a.names index (user_rows host.users) users c.add_rows.ensures.first.0 c.self.inside.users c.add_rows.new.self) c.users.ensures c.add_rows.ensures.first.2;
+      groups = rows-none site.groups.names index (group_rows host.groups) groups c.self.inside.groups;
+      user_files = ap (λ n. c.self.inside.user_files + n) c.all_files.ensures;
+      group_files = ap (λ n. c.self.inside.group_files + n) c.all_files-2.ensures;
+    } in
+    rw (← c.self.view_is) (on_err c.from_residual.result first)
+
 pub add_rows-requires-2-clause-few : goal.add_rows-requires-2-clause-few
 add_rows-requires-2-clause-few c =
     let here = c.requires.counted in
@@ -77,6 +97,24 @@ invariant_of-self-in_err-add_rows-2 c =
     is_within c.users.result.now.names c.groups.result.now.names c.args.index (user_rows host.users) (group_rows host.groups) users groups old c.add_rows.new.self c.add_rows-2.new.self (c.self.inside.user_files + c.all_files.result) (c.self.inside.group_files + c.all_files-2.result)
     (omega (arith, c.all_files.ensures)) (omega (arith, c.all_files-2.ensures)) (omega (arith, users_before, c.all_files.ensures, by_users, here.3)) (omega (arith, groups_before, c.all_files-2.ensures, by_groups, here.3))
     c.add_rows.ensures.first.0 c.add_rows-2.ensures.first.0 c.add_rows.ensures.first.1 c.add_rows-2.ensures.first.1 c.add_rows.ensures.first.2 c.add_rows-2.ensures.first.2 c.self.invariant
+
+pub returns-in_err-add_rows-2-clause-first : goal.returns-in_err-add_rows-2-clause-first
+returns-in_err-add_rows-2-clause-first c =
+    let site = c.args.site.now in
+    let index = c.args.index in
+    let host = c.args.host.now in
+    let users = c.args.users.now in
+    let groups = c.args.groups.now in
+    let new : Counted = record { users = c.add_rows.new.self; groups = c.add_rows-2.new.self; user_files = c.self.inside.user_files + c.all_files.result; group_files = c.self.inside.group_files + c.all_files-2.result } in
+    let first : CountsFirstRows site index host users groups (counted_so_far c.self.inside) new = record {
+      of_passwd = c.add_rows.ensures.first.0;
+      of_group = c.add_rows-2.ensures.first.0;
+      users = subst (λ (a : Accounts). CountsRows a.names index (user_rows host.users) users c.add_rows.ensures.first.0 c.self.inside.users c.add_rows.new.self) c.users.ensures c.add_rows.ensures.first.2;
+      groups = subst (λ (a : Accounts). CountsRows a.names index (group_rows host.groups) groups c.add_rows-2.ensures.first.0 c.self.inside.groups c.add_rows-2.new.self) c.groups.ensures c.add_rows-2.ensures.first.2;
+      user_files = ap (λ n. c.self.inside.user_files + n) c.all_files.ensures;
+      group_files = ap (λ n. c.self.inside.group_files + n) c.all_files-2.ensures;
+    } in
+    rw (← c.self.view_is) (on_err c.from_residual-in_err-add_rows-2.result first)
 
 pub invariant_of-self-2 : goal.invariant_of-self-2
 invariant_of-self-2 c =
