@@ -8,6 +8,7 @@ pub mod Pool
 pub mod HostOwners
 pub mod Owners
 pub mod Order
+pub mod Heads
 pub mod Index
 pub mod Views
 pub mod Pairs

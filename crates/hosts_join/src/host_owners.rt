@@ -1,5 +1,5 @@
 //! Who has which number on one host.
-ghost use Rattle.std.specs.Prelude.{◌≡◌, ℕ, if◌then◌else◌, ◌==◌, Some, None, OnOk};
+ghost use Rattle.std.specs.Prelude.{◌≡◌, ℕ, if◌then◌else◌, ◌==◌, Some, None, OnOk, IfOk};
 ghost use Rattle.hosts_join.specs.HostOwners.{place_in};
 
 use std::alloc::{AllocError, Global};
@@ -34,14 +34,14 @@ impl Model for HostOwners {
 }
 
 impl HostOwners {
-    /// Nobody has a number.
-    pub(crate) fn new(alloc: Global) -> Self
-        ensures { (v : ℕ) → place_in result v ≡ None }
+    /// Nobody has a number. There is room for so many rows.
+    pub(crate) fn with_capacity(alloc: Global, rows: usize) -> Result<Self, AllocError>
+        ensures { IfOk result (λ owners. (v : ℕ) → place_in owners v ≡ None) }
     {
-        HostOwners {
-            places: HashMap::new(alloc),
-            rows: Vec::new(alloc),
-        }
+        Ok(HostOwners {
+            places: HashMap::with_capacity(alloc, rows)?,
+            rows: Vec::with_capacity(alloc, rows)?,
+        })
     }
 
     /// Gives a number, which nobody has, to the name at a place.

@@ -13,14 +13,18 @@ pub(crate) struct Owners {
 }
 
 impl Owners {
-    /// No number on any of so many hosts.
-    pub(crate) fn new(alloc: Global, hosts: usize) -> Result<Self, AllocError>
+    /// No number on any of so many hosts. There is room for so many rows of each.
+    pub(crate) fn with_capacity(
+        alloc: Global,
+        hosts: usize,
+        rows: usize,
+    ) -> Result<Self, AllocError>
         ensures none { IfOk result (λ owners. (h v : ℕ) → owner_in owners h v ≡ None) }
         ensures hosts { IfOk result (λ owners. length owners.hosts.items ≡ hosts) }
     {
         let mut tables = Vec::with_capacity(alloc, hosts)?;
         for _host in 0..hosts {
-            tables.push(HostOwners::new(alloc))?;
+            tables.push(HostOwners::with_capacity(alloc, rows)?)?;
         }
         Ok(Owners { hosts: tables })
     }
