@@ -49,18 +49,23 @@ pub struct Solution {
 ///
 /// It begins with a guess, made in flat lists: each name grows a tree of the names that stand in
 /// its way, for a few steps alone, and then all that are left at once, until a tree is out and
-/// others may take up its names. What of the guess is seen to be right is kept, and names that are
-/// left are served one by one, each by a search for a shortest augmenting path, which ends once
-/// nothing is nearer than the nearest way out that it saw: a number that nobody has, or a name that
-/// leaves. A tree or a search that reaches names with E candidates takes E log E steps. The trees
-/// share the names that they reach, so where k names wait a tree has a k-th of these on the
-/// average; a search reaches a further name only over a number that this name was given, and no
-/// table of the site's size is cleared or read for it. So the time is near linear where few names
-/// want one number, and mostly where many do; at worst it is all names times all candidates, times
-/// the candidates of one name or a logarithm. Of memory the guess takes up to 32 bytes a candidate,
-/// some 110 a name, 60 a number, and half a megabyte in which numbers below 65,536 are looked up,
-/// beside what its lists have to spare; then a name takes 24 bytes and a number that was given some
-/// 80, beside one search's names and candidates and the memory of the fill.
+/// others may take up its names. What of the guess is seen to be right is kept, or none of it where
+/// a number with a potential would then be nobody's, and names that are left are served one by one,
+/// each by a search for a shortest augmenting path, which ends once nothing is nearer than the
+/// nearest way out that it saw: a number that nobody has, or a name that leaves.
+///
+/// A search that reaches names with E candidates takes E log E steps. So does a tree mostly, and at
+/// worst E times the candidates of one name, since it reads a name anew for up to each of its
+/// candidates. The trees share the names that they reach, so where k names wait a tree has a k-th
+/// of these on the average; a search reaches a further name only over a number that this name was
+/// given, and no table of the site's size is cleared or read for it. So the time is near linear
+/// where few names want one number, and mostly where many do; at worst it is all names times all
+/// candidates, times the candidates of one name or a logarithm.
+///
+/// Of memory the guess takes up to 40 bytes a candidate, some 110 a name, 60 a number, and half a
+/// megabyte in which numbers below 65,536 are looked up, beside what its lists have to spare; then
+/// a name takes 24 bytes and a number that was given some 80, beside one search's names and
+/// candidates and the memory of the fill.
 pub fn solve(alloc: Global, rows: &Rows<'_, '_>) -> Result<Solution, AllocError>
     ensures admissible { IfOk result (λ s. IsAdmissible rows.now.accounts s.mapping) }
     ensures proves { IfOk result (λ s. Proves rows.now s.mapping s.y.items s.z.items) }

@@ -81,7 +81,7 @@ fn candidates_of(
     let file_weight = names.all_lines() + 1;
     let pool = names.pool(names.class(index));
     let cells = counts.cells(index);
-    // On how many more hosts the name has the numbers that are left than on one each.
+    // At most on how many more hosts the name has the numbers that are left than on one each.
     let mut more = names.spots(index).len() as u64 - cells.len() as u64;
     let mut row = SmallVec::with_capacity(alloc, cells.len())?;
     for cell in cells {

@@ -88,7 +88,8 @@ pub fn numbers_stand_where_they_may()
     ensures { NumbersStandWhereTheyMay }
 {}
 
-/// And a name may have every such number that an account may have and that is not reserved.
+/// A name may have every number at which `numbers_stand_where_they_may` lets it stand, if an
+/// account may have it and it is not reserved.
 pub fn numbers_that_may_stand_are_offered()
     ensures { NumbersThatMayStandAreOffered }
 {}

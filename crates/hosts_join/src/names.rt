@@ -157,7 +157,7 @@ fn clash_fault<'a>(kind: Which, clash: Clash<'a>) -> SiteFault<'a>
     }
 }
 
-/// Sees that no number is given to a name that is reserved, nor to two names.
+/// Sees that no reserved number is given to a name, and no number to two names.
 fn check_claims<'a>(
     alloc: Global,
     kind: Which,

@@ -251,13 +251,13 @@ fn push_user_line<'t>(
 /// both in decimal. Every other byte is as it was: the order of the lines, their other fields,
 /// lines that the reader skips, and the line ends, also a missing last newline. The uid of a name
 /// that is not of the site stays, and so does a gid that is of no group of the host: there are none
-/// in a text that was read as the table of a host of the site that `check_primary` accepts. Asked
-/// is that the site knows the host by this index, as it does where it was joined from the hosts,
-/// and that the mappings have one number for each user and for each group of the site.
+/// in a text that was read as the table of a host of the site that `check_primary` accepts.
+/// Requires that the site knows the host by this index, as it does where it was joined from the
+/// hosts, and that the mappings have one number for each user and for each group of the site.
 ///
 /// Source: passwd(5). One pass over the text, without a look-up for a user where the text is that
-/// of the host's table, else with one by hash, and with two where its primary group is not that of
-/// the user before. Memory for the new text alone.
+/// of the host's table, else with one by hash, and with two more where its primary group is not
+/// that of the user before. Memory for the new text alone.
 ///
 /// # Errors
 ///
@@ -275,7 +275,7 @@ pub fn host_passwd_text(
     ensures { IfOk result
         (λ new. new.items ≡ host_users host.now site.now mappings.now text.now) }
 {
-    let mut new = Vec::new(alloc);
+    let mut new = Vec::with_capacity(alloc, text.len())?;
     let mut rest = text;
     let mut coming = Coming {
         index,
@@ -369,7 +369,7 @@ pub fn host_group_text(
     requires { length groups.now ≡ length site.now.groups.names }
     ensures { IfOk result (λ new. new.items ≡ host_groups site.now groups.now text.now) }
 {
-    let mut new = Vec::new(alloc);
+    let mut new = Vec::with_capacity(alloc, text.len())?;
     let mut rest = text;
     while let Some((line, more)) = cut(b'\n', rest) {
         push_group_line(&mut new, line, site, groups)?;

@@ -88,8 +88,8 @@ pub fn group_in_part_reads_back()
     ensures { GroupInPartReadsBack }
 {}
 
-/// A site that was joined from all rows of hosts that were read is one of which these two laws
-/// hold.
+/// A site that was joined from all rows of hosts that were read is one of which
+/// `passwd_in_part_reads_back` and `group_in_part_reads_back` hold.
 pub fn all_is_in_part()
     ensures { AllIsInPart }
 {}

@@ -3,6 +3,7 @@
 //!
 //! Each name has one row, with its new number and the fields of the first host that has it; a group
 //! has the users of all hosts. Where a later host has another field, `differences` tells so.
+//! `host_passwd_text` and `host_group_text` are a host's own files with the new numbers.
 #![tactic(auto)]
 
 mod alike;

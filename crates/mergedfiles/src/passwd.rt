@@ -98,9 +98,9 @@ fn push_user(
 
 /// The merged passwd: a line for each user of the site, ascending by its new number, with the
 /// fields of the first host that has it; its primary group is the group of that host, with its new
-/// number; where that host has no group of the number (`check_primary` refuses such a host) the
-/// number stays. Requires that the site was joined from these hosts, each lawful, and that the
-/// mappings have one number for each user and for each group.
+/// number; where that host has no group of the number, as where the group was left out because it
+/// is kept, the number stays. Requires that the site was joined from these hosts, each lawful, and
+/// that the mappings have one number for each user and for each group.
 ///
 /// Time in step with the text, with three look-ups by hash for each user, and one sort of the users
 /// by number. Memory for the text, and 8 bytes a user.

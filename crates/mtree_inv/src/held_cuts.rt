@@ -7,7 +7,7 @@ use crate::hashed_cut::HashedCut;
 use std::alloc::{AllocError, Global};
 use std::marker::Model;
 
-/// The number of a cut, where its bytes end, and its hash.
+/// The number of a cut's front, where its bytes end, and its hash.
 #[derive(Clone, Copy, Drop)]
 pub(crate) struct Row {
     front: u32,
@@ -64,7 +64,7 @@ impl Rows {
         self.rows.len()
     }
 
-    /// The cut with this number.
+    /// The cut at this index.
     pub(crate) fn get(&self, number: usize) -> Option<HashedCut<'_>>
         ensures { MatchOption result (length self.now ≤ number)
             (λ cut. slice_get self.now number ≡ Some cut) }

@@ -45,7 +45,7 @@ impl Past {
     }
 
     // Keeps the hashes of the text that ends. Where there is no memory to tell one text from the
-    // next, no more are kept.
+    // next, none are kept any more, nor those that were.
     fn take(&mut self, parts: &Parts) {
         let hashes = parts.hashes(MOST_HASHES.saturating_sub(self.count));
         self.count = self.count.saturating_add(hashes.len());

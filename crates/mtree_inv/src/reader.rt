@@ -101,7 +101,8 @@ impl Reader {
     /// Is as after a `restart`, and gives its memory back, but for the hashes that it keeps: for a
     /// reader that has no next text for now.
     ///
-    /// Where hashes are kept, it takes the time of a `restart`, and else of a new reader.
+    /// Constant time for each path in a search tree, and for each file that waits; where hashes are
+    /// kept, the time of a `restart`.
     pub fn give_back(&mut self, most: u32)
         ensures stands { StandsFor self.new [] }
         ensures most { self.new.most ≡ most }
@@ -136,7 +137,7 @@ impl Reader {
     /// Each path takes 8 bytes until its text has come once more. None are kept of a text of which
     /// two paths have one hash, as whoever names the files can bring about, nor where memory is
     /// refused, nor where there would be more than 67,108,864 in all. Then that text is read as
-    /// always.
+    /// always; and all are where there is no memory to tell one text from the next.
     pub fn keep_hashes(&mut self)
         ensures { self.new ≡ self.old }
     {
@@ -154,7 +155,7 @@ impl Reader {
     /// of the one expected in its place only ends this for its text: all paths so far are put into
     /// the table then, in the time that it had saved.
     ///
-    /// After a second `rewind` nothing is expected, nor is after one without `keep_hashes`. It
+    /// After a second `rewind` nothing is expected, nor after one without `keep_hashes`. It
     /// takes the time of `give_back`.
     pub fn rewind(&mut self, most: u32)
         ensures stands { StandsFor self.new [] }

@@ -211,9 +211,10 @@ impl Counting {
     /// that of the files that were added before at most 1073741824 have a user, and at most as many
     /// a group.
     ///
-    /// For each row that owns files a step, and memory for a note, which `new` has taken for one
-    /// row of each name and host. `AllocError` where more is refused: then the files of the first
-    /// rows alone are counted, though those of all rows are said to have a user, and a group.
+    /// One pass over the counts of the rows; for each row that owns files a step, and memory for a
+    /// note, which `new` has taken for one row of each name and host. `AllocError` where more is
+    /// refused: then the files of the first rows alone are counted, though those of all rows are
+    /// said to have a user, and a group.
     pub fn add_host(
         &mut self,
         site: &Site<'_>,

@@ -32,8 +32,8 @@ pub struct Record<'a> {
 /// Why a text is no plan.
 #[derive(Clone, Copy, Debug, PartialEq, Eq)]
 pub enum PlanFault {
-    /// 35: the first header, record or end that is not lawful begins at this byte; bytes count from
-    /// 0.
+    /// 35: at this byte, counted from 0, begins the first header, record or end that is not lawful,
+    /// or what stands after the end.
     BadPlan(usize),
     /// A growth was refused. It has no number.
     Memory,
@@ -145,9 +145,9 @@ impl<'a> Plan<'a> {
     /// Reads a plan, whose paths are slices of its text. A text that is no plan is `BadPlan` with
     /// the byte at which the first header, record or end that is not lawful begins, or what stands
     /// after the end. One pass over the text, and one sort of the records by their paths, in
-    /// place: a few comparisons of paths for each binary digit of their number, whatever they are,
-    /// since whoever names files chooses their paths. Where a path stands twice the text is read
-    /// once more up to there.
+    /// place: for each record a few comparisons of paths for each binary digit of their number,
+    /// whatever they are, since whoever names files chooses their paths. Where a path stands twice
+    /// the text is read once more up to there.
     ///
     /// # Errors
     ///

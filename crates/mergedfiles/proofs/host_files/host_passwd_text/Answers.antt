@@ -27,6 +27,6 @@ unfolding numbers.numeral
 loop-line-init c =
     let f = renumbered_user c.args.host.now c.args.site.now c.args.mappings.now in
     record {
-      written = ap (λ t. t ++ renumbered_text f c.args.text.now) c.new-new.ensures.items;
+      written = ap (λ t. t ++ renumbered_text f c.args.text.now) c.in_ok-new.ensures.items;
       coming = record { primary = refl; placed = subst (All (IsPlaced c.args.site.now.users c.args.index)) (sym c.rows.ensures.rows) (rows-placed c.args.site.now c.args.index c.args.host.now c.requires.known c.rows.ensures.table) };
     }
