@@ -11,10 +11,11 @@ with what a merge writes it takes 2.6 GB of disk, and a merge of it takes a minu
 
 Solving is what `unify merge` takes less what `unify count` takes, which reads and counts: so it has the join, the merged
 files, the certificate and the plans in it too, and the second reading of the inventories. What it takes without that is told
-beside it: less once more what the count takes with the inventories and does not take without them. Of scipy it is the call
-alone. The weights that both find have to be equal. All are processor seconds, the least of some runs, since other work on
+beside it: less once more what the count takes with the inventories and does not take without them. The floor of a contested
+site is what floor.c takes, which only joins the accounts and writes the hosts' passwd files, and checks nothing. Of scipy it is
+the call alone. The weights that both find have to be equal. All are processor seconds, the least of some runs, since other work on
 the machine changes these least. The growth is the exponent that fits the family's times best. Where scipy would take too
-long it is left out. It wants a Python that has scipy, and `make program` before it. Sites are made below bench/work, which
+long it is left out. It wants a Python that has scipy, `cc`, and `make program` before it. Sites are made below bench/work, which
 git does not see and which may be a link to a directory in memory, and removed after: where many files were removed of late
 some file systems take longer to make new ones.
 """
@@ -23,6 +24,7 @@ import math
 import os
 import random
 import shutil
+import subprocess
 import sys
 
 import solve
@@ -43,6 +45,7 @@ FAMILIES = {
     # names, rows and numbers of solve.py
     "sparse": [(100_000, 160_000, 8_000), (250_000, 500_000, 8_000), (800_000, 1_600_000, 25_500), (2_600_000, 4_190_000, 65_500)],
 }
+FLOOR = os.path.join(HERE, "work", "floor")
 # Above so many names of a sparse site scipy would take hours.
 MOST_FOR_SCIPY = 250_000
 # Below so many candidates commands are run nine times, above it three times.
@@ -91,8 +94,20 @@ def least_of_scipy(weights):
     return seconds, best
 
 
+def least_of_floor(folder, words):
+    """The least of three times of floor.c on the hosts."""
+    to = f"{folder}/floor"
+    os.mkdir(to)
+    command = [FLOOR, to, *(word.split("=")[1] for word in words)]
+    return min(float(subprocess.run(command, check=True, capture_output=True).stdout) for _ in range(3))
+
+
+# How many candidates a site has, and the seconds of solving it, also without the second reading, of its floor, and of scipy.
+Solved = collections.namedtuple("Solved", "candidates seconds unread floor scipy")
+
+
 def solving(name, names, make, with_scipy):
-    """How many candidates there are, the seconds of solving, also without the second reading, and those of scipy or none."""
+    """What solving a site takes. It has no floor where it is sparse, and no time of scipy where that would take too long."""
     hosts, rows = make()
     folder = os.path.join(HERE, "work", f"contested-{name}-{names}")
     words = write_hosts(folder, hosts, names, rows)
@@ -105,13 +120,25 @@ def solving(name, names, make, with_scipy):
     seconds = least["merge"] - least["count"]
     unread = seconds - (least["count"] - least["bare"])
     weight = weight_of_map(f"{out}/map", weights)
+    floor = least_of_floor(folder, words) if name != "sparse" else None
     shutil.rmtree(folder)
     if not with_scipy:
-        return len(weights), seconds, unread, None
+        return Solved(len(weights), seconds, unread, floor, None)
     scipys, best = least_of_scipy(weights)
     if weight != best:
         sys.exit(f"{name}, {names} names: weights differ, {weight} and {best}")
-    return len(weights), seconds, unread, scipys
+    return Solved(len(weights), seconds, unread, floor, scipys)
+
+
+def told(solved):
+    """The times, and beside those of scipy the ratios to it."""
+    parts = [f"{solved.candidates:,} candidates: {solved.seconds:.2f} s", f"{solved.unread:.2f} s without the second reading"]
+    if solved.floor:
+        parts.append(f"floor {solved.floor:.3f} s")
+    if solved.scipy:
+        ratios = " and ".join(f"{seconds / solved.scipy:.3f}" for seconds in (solved.seconds, solved.unread))
+        parts.append(f"scipy {solved.scipy:.2f} s, ratios {ratios}")
+    return ", ".join(parts)
 
 
 def growth(points):
@@ -122,13 +149,14 @@ def growth(points):
 
 
 def main():
+    os.makedirs(os.path.dirname(FLOOR), exist_ok=True)
+    subprocess.run(["cc", "-O2", "-o", FLOOR, os.path.join(HERE, "floor.c")], check=True)
     for name in sys.argv[1:] or FAMILIES:
         points = []
         for names, make, with_scipy in sites(name):
-            candidates, ours, unread, scipys = solving(name, names, make, with_scipy)
-            points.append((candidates, ours))
-            beside = f"scipy {scipys:.2f} s, ratios {ours / scipys:.3f} and {unread / scipys:.3f}" if scipys else "scipy not run"
-            print(f"{name}: {names:,} names, {candidates:,} candidates: {ours:.2f} s, {unread:.2f} s without the second reading, {beside}", flush=True)
+            solved = solving(name, names, make, with_scipy)
+            points.append((solved.candidates, solved.seconds))
+            print(f"{name}: {names:,} names, {told(solved)}", flush=True)
         print(f"{name}: growth {growth(points):.2f}", flush=True)
 
 
