@@ -4,7 +4,8 @@
  *
  *     cc -O2 -o floor bench/floor.c && ./floor OUT DIRECTORY..
  *
- * Each DIRECTORY has a passwd without a fault. OUT is a directory, for the files passwd.0 and so on.
+ * Each DIRECTORY has a passwd without a fault, and there are at most 64 of them, with 131,072 names. OUT is a directory, for the
+ * files passwd.0 and so on.
  */
 #define _GNU_SOURCE
 #include <stdint.h>
